@@ -1,0 +1,6 @@
+pub mod Choice
+pub mod Int
+pub mod Ring
+pub mod Round
+pub mod RoundLaws
+pub mod FloorLaws
