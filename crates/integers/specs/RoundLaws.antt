@@ -156,6 +156,15 @@ round-exact d q hd =
     let z : natAbs (val (offE (d *ℤ q) d (var q))) ≤ 0 = abs-le (offE (d *ℤ q) d (var q)) 0 (omega (arith, halves (var d ⊗ var q))) (omega (arith, halves (var d ⊗ var q))) in
     round-only (d *ℤ q) d q hd (omega (arith, ints))
 
+-- a whole number is itself
+pub round-one : (a : ℤ) → roundDiv a (pos 1) ≡ a
+unfolding roundDiv
+round-one (pos n) = ap pos (omega arith)
+round-one (negsuc n) = ap (λ (m : ℕ). negℤ (pos m)) (halved (suc n))
+  where
+    halved : (m : ℕ) → (2 * m + 1) / (2 * 1) ≡ m
+    halved m = omega arith
+
 -- ---- by division toward 0 and its remainder, as code has them
 
 near-down : (a d : ℕ) → 0 < d → 2 * (a % d) < d → a / d ≡ near a d
