@@ -1,0 +1,14 @@
+-- The filler is the default table.
+use mathlib.Core.Path.{refl}
+use borrow.Author.Needs.{needs}
+use Rattle.parameters.proofs.refused.Statement.{statement}
+use Rattle.parameters.proofs.refused.Tie as tie
+
+defaults-requires : tie.Need-defaults-requires
+defaults-requires c κs = search needs
+
+returns : tie.Need-returns
+returns c = rw (c .defaults .ensures)
+
+pub refused-spec : {M : Type 1} → statement M
+refused-spec = tie.close (tie.spec defaults-requires returns)

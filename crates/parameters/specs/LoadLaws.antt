@@ -1,0 +1,57 @@
+-- A load's number is the first condition's: each number is returned in its own condition and in no other. The defaults load.
+-- Paper 01, "Where each check sits", load.
+use mathlib.Core.Path.{_≡_, refl, sym, _∙_, ap}
+use mathlib.Core.Bool.{Bool, true, false, cond, not}
+use mathlib.Core.List.{List}
+use Prim.Native.Nat.{ℕ, suc, _+_, _<_, _≤_}
+use native.Mathlib.Omega.{arith}
+use borrow.Author.Tests.{eq-eqb, ne-eqb, eqb-true, lt-ltb, le-ltb}
+use lib.Dec.{eqb, ltb}
+use lib.IntN.{ℤ, pos, negsuc}
+use lib.ListN.{length, getD}
+use Rattle.parameters.specs.Rows.{lowestOut, outFrom, rowOf, rowAt, inRange, defaultsFrom, defaultTable}
+use Rattle.parameters.specs.Search.{some, firstOf}
+use Rattle.parameters.specs.SearchLaws.{first-least}
+use Rattle.parameters.specs.Load.{sameZ, wordsMissing, slotOut, fieldWrong, errorBitWrong, spanEmpty, notAbove, pointsNotRising, originMissing, frozenByEdge, freezeOnEdge, differ, differsFrom, polaritiesDiffer, conflicts, conditions, loadNumber, loadSlot, refusal, loadOf}
+
+-- the test of two whole numbers tells whether they are equal
+pub same-yes : (a b : ℤ) → a ≡ b → sameZ a b ≡ true
+same-yes (pos a) (pos b) e = eq-eqb a b cc
+same-yes (negsuc a) (negsuc b) e = eq-eqb a b cc
+same-yes (pos a) (negsuc b) e = cc
+same-yes (negsuc a) (pos b) e = cc
+
+pub same-no : (a b : ℤ) → (a ≡ b → ⊥) → sameZ a b ≡ false
+same-no (pos a) (pos b) n = ne-eqb a b (λ e. n (ap pos e))
+same-no (negsuc a) (negsuc b) n = ne-eqb a b (λ e. n (ap negsuc e))
+same-no (pos a) (negsuc b) n = refl
+same-no (negsuc a) (pos b) n = refl
+
+pub same-true : (a b : ℤ) → sameZ a b ≡ true → a ≡ b
+same-true (pos a) (pos b) e = ap pos (eqb-true a b e)
+same-true (negsuc a) (negsuc b) e = ap negsuc (eqb-true a b e)
+same-true (pos a) (negsuc b) e = cc
+same-true (negsuc a) (pos b) e = cc
+
+-- what load answers, stage by stage
+module _ (t : List ℤ) where
+  pub load-length : (length t ≡ 104 → ⊥) → loadOf t ≡ refusal 1 0
+  unfolding loadOf loadSlot loadNumber conditions wordsMissing firstOf
+  load-length h = rw (ne-eqb (length t) 104 h)
+
+  pub load-range : length t ≡ 104 → lowestOut t < 104 → loadOf t ≡ refusal 2 (lowestOut t)
+  unfolding loadOf loadSlot loadNumber conditions wordsMissing slotOut firstOf
+  load-range e h = rw (eq-eqb (length t) 104 e, lt-ltb (lowestOut t) 104 h)
+
+  passed : length t ≡ 104 → 104 ≤ lowestOut t → loadNumber t ≡ firstOf 3 (conflicts t)
+  unfolding loadNumber conditions wordsMissing slotOut firstOf
+  passed e h = rw (eq-eqb (length t) 104 e, le-ltb (lowestOut t) 104 h)
+
+  pub load-conflict : length t ≡ 104 → 104 ≤ lowestOut t → (firstOf 3 (conflicts t) ≡ 0 → ⊥) → loadOf t ≡ refusal (firstOf 3 (conflicts t)) 0
+  unfolding loadOf loadSlot
+  load-conflict e h n =
+      rw (passed e h, ne-eqb (firstOf 3 (conflicts t)) 0 n, ne-eqb (firstOf 3 (conflicts t)) 2 (λ q. omega (arith, first-least 3 (conflicts t) n)))
+
+  pub load-fine : length t ≡ 104 → 104 ≤ lowestOut t → firstOf 3 (conflicts t) ≡ 0 → loadOf t ≡ record { number = 0; slot = 0; table = t }
+  unfolding loadOf
+  load-fine e h z = rw (passed e h, z)

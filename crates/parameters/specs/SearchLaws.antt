@@ -1,0 +1,60 @@
+-- Laws of the two searches.
+use mathlib.Core.Path.{_≡_, refl, sym, _∙_, ap}
+use mathlib.Core.Bool.{Bool, true, false, _||_, cond, or-true}
+use mathlib.Core.List.{List, [], _∷_}
+use Prim.Native.Nat.{ℕ, zero, suc, _+_, _<_, _≤_}
+use native.Mathlib.Decide.{ℕ-discrete}
+use native.Mathlib.Numerals.{add-one}
+use native.Mathlib.Omega.{arith}
+use lib.ListN.{getD}
+use Rattle.parameters.specs.Search.{some, firstOf}
+
+-- neither half of an `||` that is false is true
+or-both : (a b : Bool) → (a || b) ≡ false → (a ≡ false) × (b ≡ false)
+or-both true b e = let z : _≡_ {A = ℕ} 0 1 = cc in absurd (omega arith)
+or-both false b e = (refl, e)
+
+module _ (f : ℕ → Bool) where
+  -- none so far, and not the next one
+  pub some-more : (i : ℕ) → some i f ≡ false → f i ≡ false → some (i + 1) f ≡ false
+  unfolding some
+  some-more i e d = rw (add-one, e) d
+
+  -- one is found
+  pub some-at : (n i : ℕ) → i < n → f i ≡ true → some n f ≡ true
+  unfolding some
+  some-at zero i h e = absurd (omega arith)
+  some-at (suc n) i h e = at (ℕ-discrete i n) (λ l. some-at n i l e)
+    where
+      at : Dec (i ≡ n) → (i < n → some n f ≡ true) → (some n f || f n) ≡ true
+      at (yes p) r = rw (← p, e) (or-true (some i f))
+      at (no q) r = rw (r (omega arith))
+
+  -- the loop is through
+  pub some-end : (n i : ℕ) → i ≡ n → some i f ≡ false → some n f ≡ false
+  some-end n i p e = rw p at e
+
+  -- none is there
+  pub some-none : (n i : ℕ) → some n f ≡ false → i < n → f i ≡ false
+  unfolding some
+  some-none zero i e h = absurd (omega arith)
+  some-none (suc n) i e h =
+      let b = or-both (some n f) (f n) e in
+      at (ℕ-discrete i n) (b .1) (some-none n i (b .0))
+    where
+      at : Dec (i ≡ n) → f n ≡ false → (i < n → f i ≡ false) → f i ≡ false
+      at (yes p) d r = rw p d
+      at (no q) d r = r (omega arith)
+
+-- the search goes by the tests' outcomes below n alone
+pub some-same : (f g : ℕ → Bool) (n : ℕ) → ((i : ℕ) → i < n → f i ≡ g i) → some n f ≡ some n g
+unfolding some
+some-same f g zero h = refl
+some-same f g (suc n) h = rw (some-same f g n (λ i l. h i (omega arith)), h n (omega arith))
+
+-- the first condition's number is not below that of the list's first
+pub first-least : (n : ℕ) (bs : List Bool) → (firstOf n bs ≡ 0 → ⊥) → n ≤ firstOf n bs
+unfolding firstOf
+first-least n [] h = absurd (h refl)
+first-least n (true ∷ bs) h = omega arith
+first-least n (false ∷ bs) h = omega (arith, first-least (suc n) bs h)

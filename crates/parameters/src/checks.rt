@@ -1,0 +1,201 @@
+// Checks 3 to 9, which hold slots of a table against each other.
+ghost use mathlib.Core.Path.{_≡_};
+ghost use Prim.Native.Nat.{ℕ, _<_};
+ghost use Rattle.parameters.specs.Search.{some, firstOf};
+ghost use Rattle.parameters.specs.Load.{fieldWrong, errorBitWrong, sameZ, spanEmpty, notAbove, pointsNotRising, originMissing, frozenByEdge, freezeOnEdge, differ, differsFrom, polaritiesDiffer, conflicts};
+
+use crate::{number, word};
+use crate::{ACTION, ANALOG_END, ANALOG_START, CONFIG, ERROR_BIT, HIGH_BIT, INPUT_STRIDE, LINEARIZATION, LOW_BIT, POINTS_IN_USE, POINT_STRIDE, POINT_X, POINT_Y, POLARITY, PRESELECTION_STRIDE, RESOLUTION, TARGET};
+
+// 3: B > H or H > N.
+pub fn field_wrong(t: &[i32; 104]) -> bool
+    ensures { λ r. ⌜ r ≡ fieldWrong (now (t .entry)) ⌝ }
+{
+    let high = number(t, HIGH_BIT);
+    if high < number(t, LOW_BIT) {
+        return true;
+    }
+    number(t, RESOLUTION) < high
+}
+
+// 4: the error bit is above N, or from B to H.
+pub fn error_bit_wrong(t: &[i32; 104]) -> bool
+    ensures { λ r. ⌜ r ≡ errorBitWrong (now (t .entry)) ⌝ }
+{
+    let bit = number(t, ERROR_BIT);
+    if number(t, RESOLUTION) < bit {
+        return true;
+    }
+    if number(t, LOW_BIT) <= bit {
+        return bit <= number(t, HIGH_BIT);
+    }
+    false
+}
+
+// Whether two words are equal.
+pub fn same(a: i32, b: i32) -> bool
+    ensures { λ r. ⌜ r ≡ sameZ a b ⌝ }
+{
+    if a == b {
+        return true;
+    }
+    false
+}
+
+// 5: start equals end.
+pub fn span_empty(t: &[i32; 104]) -> bool
+    ensures { λ r. ⌜ r ≡ spanEmpty (now (t .entry)) ⌝ }
+{
+    same(word(t, ANALOG_START), word(t, ANALOG_END))
+}
+
+// Whether the point after point j is used and its x is not above that of point j.
+pub fn not_above(t: &[i32; 104], j: usize) -> bool
+    requires { ⌜ j < 23 ⌝ }
+    ensures { λ r. ⌜ r ≡ notAbove (now (t .entry)) j ⌝ }
+{
+    let used = number(t, POINTS_IN_USE) as usize;
+    if j + 1 < used {
+        let next = word(t, POINT_X + POINT_STRIDE * (j + 1));
+        return next <= word(t, POINT_X + POINT_STRIDE * j);
+    }
+    false
+}
+
+// Whether some used x is not above the one before it.
+pub fn some_not_above(t: &[i32; 104]) -> bool
+    ensures { λ r. ⌜ r ≡ some 23 (notAbove (now (t .entry))) ⌝ }
+{
+    let mut j: usize = 0;
+    while j < 23 {
+        if not_above(t, j) {
+            return true;
+        }
+        j += 1;
+    }
+    false
+}
+
+// 6: linearization is on, and the used x do not strictly rise.
+pub fn points_not_rising(t: &[i32; 104]) -> bool
+    ensures { λ r. ⌜ r ≡ pointsNotRising (now (t .entry)) ⌝ }
+{
+    if number(t, LINEARIZATION) == 0 {
+        return false;
+    }
+    some_not_above(t)
+}
+
+// 7: one quadrant, and point 1 is not (0, 0).
+pub fn origin_missing(t: &[i32; 104]) -> bool
+    ensures { λ r. ⌜ r ≡ originMissing (now (t .entry)) ⌝ }
+{
+    if number(t, LINEARIZATION) != 1 {
+        return false;
+    }
+    if same(word(t, POINT_X), 0) {
+        return !same(word(t, POINT_Y), 0);
+    }
+    true
+}
+
+// Whether input i + 1 is set to freeze on an edge.
+pub fn frozen_by_edge(t: &[i32; 104], i: usize) -> bool
+    requires { ⌜ i < 3 ⌝ }
+    ensures { λ r. ⌜ r ≡ frozenByEdge (now (t .entry)) i ⌝ }
+{
+    if number(t, ACTION + INPUT_STRIDE * i) != 2 {
+        return false;
+    }
+    let config = number(t, CONFIG + INPUT_STRIDE * i);
+    if config == 2 {
+        return true;
+    }
+    config == 3
+}
+
+// 8: freeze with config 2 or 3.
+pub fn freeze_on_edge(t: &[i32; 104]) -> bool
+    ensures { λ r. ⌜ r ≡ freezeOnEdge (now (t .entry)) ⌝ }
+{
+    let mut i: usize = 0;
+    while i < 3 {
+        if frozen_by_edge(t, i) {
+            return true;
+        }
+        i += 1;
+    }
+    false
+}
+
+// Whether preselections j + 1 and k + 1 aim at one output and differ in polarity.
+pub fn differs(t: &[i32; 104], j: usize, k: usize) -> bool
+    requires { ⌜ (j < 4) × (k < 4) ⌝ }
+    ensures { λ r. ⌜ r ≡ differ (now (t .entry)) j k ⌝ }
+{
+    let output = number(t, TARGET + PRESELECTION_STRIDE * j);
+    if output == 0 {
+        return false;
+    }
+    if output != number(t, TARGET + PRESELECTION_STRIDE * k) {
+        return false;
+    }
+    number(t, POLARITY + PRESELECTION_STRIDE * j) != number(t, POLARITY + PRESELECTION_STRIDE * k)
+}
+
+// Whether some preselection differs from preselection j + 1.
+pub fn differs_from(t: &[i32; 104], j: usize) -> bool
+    requires { ⌜ j < 4 ⌝ }
+    ensures { λ r. ⌜ r ≡ differsFrom (now (t .entry)) j ⌝ }
+{
+    let mut k: usize = 0;
+    while k < 4 {
+        if differs(t, j, k) {
+            return true;
+        }
+        k += 1;
+    }
+    false
+}
+
+// 9: two preselections on one output, polarities differ.
+pub fn polarities_differ(t: &[i32; 104]) -> bool
+    ensures { λ r. ⌜ r ≡ polaritiesDiffer (now (t .entry)) ⌝ }
+{
+    let mut j: usize = 0;
+    while j < 4 {
+        if differs_from(t, j) {
+            return true;
+        }
+        j += 1;
+    }
+    false
+}
+
+// The first of the checks 3 to 9 that fails, 0 where none does.
+pub fn conflict(t: &[i32; 104]) -> u32
+    ensures { λ r. ⌜ r ≡ firstOf 3 (conflicts (now (t .entry))) ⌝ }
+{
+    if field_wrong(t) {
+        return 3;
+    }
+    if error_bit_wrong(t) {
+        return 4;
+    }
+    if span_empty(t) {
+        return 5;
+    }
+    if points_not_rising(t) {
+        return 6;
+    }
+    if origin_missing(t) {
+        return 7;
+    }
+    if freeze_on_edge(t) {
+        return 8;
+    }
+    if polarities_differ(t) {
+        return 9;
+    }
+    0
+}
