@@ -1,0 +1,45 @@
+-- The analog code: for every result the code is f on the format's scale, rounded and held to the format's ends. Paper 01, "Analog value",
+-- first half. Format 0 is ±10 V, 1 is 0..20 mA, 2 is 4..20 mA; a number above 2, which no table has, counts as 2. Assumes nothing.
+use Prim.Native.Nat.{ℕ, zero, suc}
+use mathlib.Core.Bool.{cond}
+use lib.IntN.{ℤ, pos, negℤ, natAbs, _-ℤ_, _*ℤ_}
+use lib.Signed.{ltZ, _≤ℤ_}
+use Rattle.integers.specs.Round.{roundDiv}
+
+-- Analog value, f = (r − start) ÷ (end − start): where the end is below the start both signs are turned, so that the lower number is
+-- above zero. It is 0 where start equals end, which a load refuses; `roundDiv` then gives 0.
+abbrev pub upperOf : ℤ → ℤ → ℤ → ℤ
+upperOf start end r = cond (ltZ end start) (start -ℤ r) (r -ℤ start)
+
+abbrev pub lowerOf : ℤ → ℤ → ℕ
+lowerOf start end = natAbs (end -ℤ start)
+
+abbrev pub fraction : ℤ → ℤ → ℤ → ℤ × ℕ
+fraction start end r = (upperOf start end r, lowerOf start end)
+
+-- Analog value, "32,767 × f" in format 0, "65,535 × f" in formats 1 and 2: the scale, which is the highest code too
+abbrev pub fullScale : ℕ → ℕ
+fullScale zero = 32767
+fullScale (suc k) = 65535
+
+-- Analog value, "held to ±32,767", "held to 0..65,535": the lowest code
+abbrev pub lowest : ℕ → ℤ
+lowest zero = negℤ (pos (fullScale zero))
+lowest (suc k) = pos 0
+
+-- Analog value, "held to lo..hi"
+unfoldable pub held : ℤ → ℤ → ℤ → ℤ
+held lo hi z = cond (ltZ z lo) lo (cond (ltZ hi z) hi z)
+
+-- Analog value, "round(32,767 × f)", "round(65,535 × f)", before it is held
+abbrev pub roundedOf : ℕ → ℤ × ℕ → ℤ
+roundedOf format f = roundDiv (pos (fullScale format) *ℤ f .0) (pos (f .1))
+
+-- Analog value, "code"
+unfoldable pub codeOf : ℕ → ℤ → ℤ → ℤ → ℤ
+codeOf format start end r = held (lowest format) (pos (fullScale format)) (roundedOf format (fraction start end r))
+
+-- a code within the ends of its format
+pub record CodeFits (format : ℕ) (code : ℤ) : Type 0 where
+  pub low : lowest format ≤ℤ code
+  pub high : code ≤ℤ pos (fullScale format)

@@ -1,0 +1,8 @@
+pub mod Fraction
+pub mod AnalogCode
+pub mod Drives
+pub mod ExactSteps
+pub mod FloatOrder
+pub mod CodeLaws
+pub mod DriveLaws
+pub mod Cases
