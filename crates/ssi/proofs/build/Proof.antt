@@ -1,0 +1,57 @@
+-- `ssi::build` meets its contract: a position above the mask is M or more, and each test answers for one refusal.
+use mathlib.Core.Path.{_≡_, sym, _∙_}
+use Prim.Native.Nat.{_+_, _-_, _^_, _≤_, _<_}
+use native.Mathlib.Omega.{arith}
+use borrow.Author.Tests.{le-leb, lt-leb}
+use lib.Pow.{suc-ones}
+use Rattle.ssi.specs.Telegram.{modulus}
+use Rattle.ssi.specs.Builder.{builtOf}
+use borrow.Author.Needs.{needs}
+use Rattle.ssi.proofs.build.Statement.{statement}
+use Rattle.ssi.proofs.build.Tie as tie
+
+sub-mask : tie.Need-sub-mask
+sub-mask c = search needs
+
+add-mask : tie.Need-add-mask
+add-mask c = search needs
+
+mask-requires : tie.Need-mask-requires
+mask-requires c κs = search needs
+
+too-big : (c : tie.Then1) → modulus (c .before .before .before .args .l) ≤ c .before .before .before .args .position
+too-big c = omega (arith, suc-ones (c .before .before .before .args .l .high - c .before .before .before .args .l .low + 1), c .before .mask .ensures, c .if1 .taken)
+
+small : (c : tie.Else1) → c .before .before .before .args .position < modulus (c .before .before .before .args .l)
+small c = omega (arith, suc-ones (c .before .before .before .args .l .high - c .before .before .before .args .l .low + 1), c .before .mask .ensures, c .if1 .left)
+
+returns : tie.Need-returns
+unfolding builtOf
+returns c = rw (le-leb _ _ (too-big c))
+
+lacks-error-bit-requires : tie.Need-lacks-error-bit-requires
+lacks-error-bit-requires c κs = search needs
+
+returns-2 : tie.Need-returns-2
+unfolding builtOf
+returns-2 c = rw (lt-leb _ _ (small (c .before .before)), sym (c .before .lacks-error-bit .ensures) ∙ c .if2 .taken)
+
+telegram-requires : tie.Need-telegram-requires
+telegram-requires c κs = (c .before .before .before .before .before .pre, small (c .before .before))
+
+returns-3 : tie.Need-returns-3
+unfolding builtOf
+returns-3 c = rw (c .telegram .ensures, lt-leb _ _ (small (c .before .before .before)), sym (c .before .before .lacks-error-bit .ensures) ∙ c .before .if2 .left)
+
+pub build-spec : {M : Type 1} → statement M
+build-spec =
+    tie.close
+    (tie.spec
+    sub-mask
+    add-mask
+    mask-requires
+    returns
+    lacks-error-bit-requires
+    returns-2
+    telegram-requires
+    returns-3)

@@ -1,0 +1,44 @@
+-- `ssi::position` meets its contract: the callees give the bits without the error bit, decoded, and the mask keeps the field.
+use lib.Bits.{and-mask}
+use Rattle.ssi.specs.Telegram.{positionOf}
+use borrow.Author.Needs.{needs}
+use Rattle.ssi.proofs.position.Statement.{statement}
+use Rattle.ssi.proofs.position.Tie as tie
+
+without-requires : tie.Need-without-requires
+without-requires c κs = search needs
+
+decode-requires : tie.Need-decode-requires
+decode-requires c κs = search needs
+
+sub-result : tie.Need-sub-result
+sub-result c = search needs
+
+shr-result : tie.Need-shr-result
+shr-result c = search needs
+
+sub-mask : tie.Need-sub-mask
+sub-mask c = search needs
+
+add-mask : tie.Need-add-mask
+add-mask c = search needs
+
+mask-requires : tie.Need-mask-requires
+mask-requires c κs = search needs
+
+returns : tie.Need-returns
+unfolding positionOf
+returns c = rw (c .mask .ensures, c .before .before .before .decode .ensures, c .before .before .before .before .without .ensures) (and-mask _ _)
+
+pub position-spec : {M : Type 1} → statement M
+position-spec =
+    tie.close
+    (tie.spec
+    without-requires
+    decode-requires
+    sub-result
+    shr-result
+    sub-mask
+    add-mask
+    mask-requires
+    returns)

@@ -1,0 +1,10 @@
+pub mod Sound
+pub mod Telegram
+pub mod Builder
+pub mod ReadBack
+pub mod Cases
+pub mod SoundLaws
+pub mod ReadBackLaws
+pub mod PartLaws
+pub mod GrayLaws
+pub mod FieldLaws
