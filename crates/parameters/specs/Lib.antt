@@ -5,3 +5,6 @@ pub mod Load
 pub mod RowLaws
 pub mod SearchLaws
 pub mod LoadLaws
+pub mod Valid
+pub mod Ranges
+pub mod Stores

@@ -2,10 +2,10 @@
 -- Condenses paper 01, "Where each check sits", load.
 use mathlib.Core.Bool.{Bool, true, false, not, _&&_, _||_, cond}
 use mathlib.Core.List.{List, [], _∷_}
-use Prim.Native.Nat.{ℕ, _+_}
+use Prim.Native.Nat.{ℕ, _+_, _-_}
 use lib.Dec.{eqb, ltb, leb}
 use lib.IntN.{ℤ, pos, negsuc}
-use lib.ListN.{length}
+use lib.ListN.{length, getD}
 use lib.Signed.{leZ}
 use Rattle.parameters.specs.declared.Loaded.{Loaded}
 use Rattle.parameters.specs.Rows.{lowestOut, defaultTable}
@@ -74,6 +74,10 @@ conflicts t =
 
 unfoldable pub conditions : List ℤ → List Bool
 conditions t = wordsMissing t ∷ slotOut t ∷ conflicts t
+
+-- condition n, from 1 to 9
+unfoldable pub condition : List ℤ → ℕ → Bool
+condition t n = getD (conditions t) (n - 1) false
 
 -- the number of the refusal, 0 where the table loads, and the slot it names, 0 except for 2
 unfoldable pub loadNumber : List ℤ → ℕ

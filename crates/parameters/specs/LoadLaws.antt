@@ -3,7 +3,7 @@
 use mathlib.Core.Path.{_≡_, refl, sym, _∙_, ap}
 use mathlib.Core.Bool.{Bool, true, false, cond, not}
 use mathlib.Core.List.{List}
-use Prim.Native.Nat.{ℕ, suc, _+_, _<_, _≤_}
+use Prim.Native.Nat.{ℕ, suc, _+_, _-_, _<_, _≤_}
 use native.Mathlib.Omega.{arith}
 use borrow.Author.Tests.{eq-eqb, ne-eqb, eqb-true, lt-ltb, le-ltb}
 use lib.Dec.{eqb, ltb}
@@ -11,8 +11,8 @@ use lib.IntN.{ℤ, pos, negsuc}
 use lib.ListN.{length, getD}
 use Rattle.parameters.specs.Rows.{lowestOut, outFrom, rowOf, rowAt, inRange, defaultsFrom, defaultTable}
 use Rattle.parameters.specs.Search.{some, firstOf}
-use Rattle.parameters.specs.SearchLaws.{first-least}
-use Rattle.parameters.specs.Load.{sameZ, wordsMissing, slotOut, fieldWrong, errorBitWrong, spanEmpty, notAbove, pointsNotRising, originMissing, frozenByEdge, freezeOnEdge, differ, differsFrom, polaritiesDiffer, conflicts, conditions, loadNumber, loadSlot, refusal, loadOf}
+use Rattle.parameters.specs.SearchLaws.{First, first-least, first-own, first-only, first-none, none-first}
+use Rattle.parameters.specs.Load.{sameZ, wordsMissing, slotOut, fieldWrong, errorBitWrong, spanEmpty, notAbove, pointsNotRising, originMissing, frozenByEdge, freezeOnEdge, differ, differsFrom, polaritiesDiffer, conflicts, conditions, condition, loadNumber, loadSlot, refusal, loadOf}
 
 -- the test of two whole numbers tells whether they are equal
 pub same-yes : (a b : ℤ) → a ≡ b → sameZ a b ≡ true
@@ -55,3 +55,48 @@ module _ (t : List ℤ) where
   pub load-fine : length t ≡ 104 → 104 ≤ lowestOut t → firstOf 3 (conflicts t) ≡ 0 → loadOf t ≡ record { number = 0; slot = 0; table = t }
   unfolding loadOf
   load-fine e h z = rw (passed e h, z)
+
+one-less : (n : ℕ) → suc n - 1 ≡ n
+one-less n = omega arith
+
+-- condition n is met and none before it is
+pub record Refused (t : List ℤ) (n : ℕ) : Type 0 where
+  pub own : condition t n ≡ true
+  pub none : (m : ℕ) → 1 ≤ m → m < n → condition t m ≡ false
+
+-- each number is returned in its own condition and in no other
+pub number-own : (t : List ℤ) (n : ℕ) → 1 ≤ n → Refused t n → loadNumber t ≡ n
+unfolding loadNumber condition
+number-own t n l r = first-own 1 (conditions t) (n - 1) (record { holds = r .own; none = before }) ∙ omega arith
+  where
+    before : (j : ℕ) → j < n - 1 → getD (conditions t) j false ≡ false
+    before j h = rw one-less at (r .none (suc j) (omega arith) (omega arith))
+
+pub number-only : (t : List ℤ) (n : ℕ) → 1 ≤ n → loadNumber t ≡ n → Refused t n
+unfolding loadNumber condition
+number-only t n l e =
+    let f = first-only 1 (conditions t) (n - 1) (omega arith) (omega arith) in
+    record { own = f .holds; none = λ m a b. f .none (m - 1) (omega arith) }
+
+-- and a table loads exactly when it meets no condition
+pub loads-only : (t : List ℤ) → loadNumber t ≡ 0 → (n : ℕ) → condition t n ≡ false
+unfolding loadNumber condition
+loads-only t e n = first-none 1 (conditions t) (omega arith) e (n - 1)
+
+pub loads-own : (t : List ℤ) → ((n : ℕ) → 1 ≤ n → condition t n ≡ false) → loadNumber t ≡ 0
+unfolding loadNumber condition
+loads-own t h = none-first 1 (conditions t) (λ j. rw one-less at (h (suc j) (omega arith)))
+
+-- the answer's number and slot are these
+pub answer-number : (t : List ℤ) → loadOf t .number ≡ loadNumber t
+unfolding loadOf
+answer-number t = go (eqb (loadNumber t) 0) refl
+  where
+    go : (b : Bool) → eqb (loadNumber t) 0 ≡ b → cond b (record { number = 0; slot = 0; table = t }) (refusal (loadNumber t) (loadSlot t)) .number ≡ loadNumber t
+    go true e = sym (eqb-true (loadNumber t) 0 e)
+    go false e = refl
+
+-- the defaults load
+pub defaults-load : loadNumber defaultTable ≡ 0
+unfolding loadNumber conditions conflicts firstOf some wordsMissing slotOut fieldWrong errorBitWrong spanEmpty notAbove pointsNotRising originMissing frozenByEdge freezeOnEdge differ differsFrom polaritiesDiffer outFrom inRange rowAt rowOf defaultTable defaultsFrom
+defaults-load = refl

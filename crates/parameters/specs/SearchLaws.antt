@@ -58,3 +58,47 @@ unfolding firstOf
 first-least n [] h = absurd (h refl)
 first-least n (true ∷ bs) h = omega arith
 first-least n (false ∷ bs) h = omega (arith, first-least (suc n) bs h)
+
+-- a place of the list where a condition holds and none before it does
+pub record First (bs : List Bool) (k : ℕ) : Type 0 where
+  pub holds : getD bs k false ≡ true
+  pub none : (j : ℕ) → j < k → getD bs j false ≡ false
+
+-- the number is that of the first condition that holds
+pub first-own : (n : ℕ) (bs : List Bool) (k : ℕ) → First bs k → firstOf n bs ≡ n + k
+unfolding firstOf
+first-own n [] k f = let z : _≡_ {A = ℕ} 0 1 = cc in absurd (omega arith)
+first-own n (true ∷ bs) zero f = omega arith
+first-own n (true ∷ bs) (suc k) f = let e = f .none 0 (omega arith) in let z : _≡_ {A = ℕ} 0 1 = cc in absurd (omega arith)
+first-own n (false ∷ bs) zero f = let e = f .holds in let z : _≡_ {A = ℕ} 0 1 = cc in absurd (omega arith)
+first-own n (false ∷ bs) (suc k) f =
+    omega (arith, first-own (suc n) bs k (record { holds = f .holds; none = λ j l. f .none (suc j) (omega arith) }))
+
+-- and only that one's
+pub first-only : (n : ℕ) (bs : List Bool) (k : ℕ) → 1 ≤ n → firstOf n bs ≡ n + k → First bs k
+unfolding firstOf
+first-only n [] k l e = absurd (omega arith)
+first-only n (true ∷ bs) zero l e = record { holds = refl; none = λ j h. absurd (omega arith) }
+first-only n (true ∷ bs) (suc k) l e = absurd (omega arith)
+first-only n (false ∷ bs) zero l e = absurd (omega (arith, first-least (suc n) bs (λ z. omega arith)))
+first-only n (false ∷ bs) (suc k) l e =
+    let f = first-only (suc n) bs k (omega arith) (omega arith) in
+    record { holds = f .holds; none = before f }
+  where
+    before : First bs k → (j : ℕ) → j < suc k → getD (false ∷ bs) j false ≡ false
+    before f zero h = refl
+    before f (suc j) h = f .none j (omega arith)
+
+-- no number: no condition holds
+pub first-none : (n : ℕ) (bs : List Bool) → 1 ≤ n → firstOf n bs ≡ 0 → (j : ℕ) → getD bs j false ≡ false
+unfolding firstOf
+first-none n [] l e j = refl
+first-none n (true ∷ bs) l e j = absurd (omega arith)
+first-none n (false ∷ bs) l e zero = refl
+first-none n (false ∷ bs) l e (suc j) = first-none (suc n) bs (omega arith) e j
+
+pub none-first : (n : ℕ) (bs : List Bool) → ((j : ℕ) → getD bs j false ≡ false) → firstOf n bs ≡ 0
+unfolding firstOf
+none-first n [] h = refl
+none-first n (true ∷ bs) h = let e = h 0 in let z : _≡_ {A = ℕ} 0 1 = cc in absurd (omega arith)
+none-first n (false ∷ bs) h = none-first (suc n) bs (λ j. h (suc j))
