@@ -1,7 +1,6 @@
 -- Paper 01, "Places to check": the telegrams of the defaults, N = H = 25, B = 1, Gray, no error bit.
 use mathlib.Core.Path.{_≡_, refl}
 use mathlib.Core.Bool.{false}
-use mathlib.Core.List.{List, [], _∷_}
 use Prim.Native.Nat.{ℕ}
 use Rattle.ssi.specs.declared.Layout.{Layout}
 use Rattle.ssi.specs.declared.Reading.{Reading}

@@ -1,12 +1,12 @@
--- What the shifts and masks of the code compute: a mask, one bit taken as 0, and one bit put beside a field.
+-- What the shifts and masks of the code compute: a mask, one bit taken as 0, one bit kept alone.
 -- Here a bit is counted from 0: bit k is worth 2 ^ k.
-use mathlib.Core.Path.{_≡_, refl, sym, ap, ap₂, _∙_, subst}
-use Prim.Native.Nat.{ℕ, zero, suc, _+_, _-_, _*_, _/_, _%_, _^_, _≤_, _<_}
-use native.Mathlib.Nat.{le-refl, le-trans, zero-lt-suc, mod-lt, mod-mod, mul-assoc, one-mul, suc-mul, add-zero, zero-mul, pow-succ', mul-le-mul-left, pow-suc}
+use mathlib.Core.Path.{_≡_, sym, ap, ap₂, _∙_, subst}
+use Prim.Native.Nat.{ℕ, suc, _+_, _-_, _*_, _/_, _%_, _^_, _≤_, _<_}
+use native.Mathlib.Nat.{mod-lt, mod-mod, mul-assoc, one-mul, suc-mul, add-zero, zero-mul, pow-succ'}
 use native.Mathlib.Numerals.{add-one}
 use native.Mathlib.Omega.{arith}
-use lib.Dec.{lit<, lit≤}
-use lib.Bits.{bitAnd, bitOr, and-mask, and-block, and-high, and-zero-r, or-disjoint}
+use lib.Dec.{lit<}
+use lib.Bits.{bitAnd, and-mask, and-block, and-high, and-zero-r}
 use lib.Pow.{pow-pos, pow-mono, split, high, ones-lt, ones-split, shl-exact, shr-shr, shr-mod, shr-lt}
 
 -- the level of bit k
@@ -26,7 +26,7 @@ mask-is w h =
     ap (λ (x : ℕ). (2 ^ x - 1) / 2 ^ (32 - w)) (rest w h) ∙ ap (λ (x : ℕ). x / 2 ^ (32 - w)) (ones-split w (32 - w)) ∙ high (2 ^ w - 1) (32 - w) (ones-lt (32 - w))
 
 -- 1 << k
-pub one-at : (k : ℕ) → k < 32 → 1 * 2 ^ k % 2 ^ 32 ≡ 2 ^ k
+one-at : (k : ℕ) → k < 32 → 1 * 2 ^ k % 2 ^ 32 ≡ 2 ^ k
 one-at k h = shl-exact 1 k 32 (lit< tt) (omega arith) ∙ one-mul (2 ^ k)
 
 -- !(1 << k): all bits but bit k, as the j + 1 upper ones less the lowest of them, and the k lower ones
@@ -57,13 +57,10 @@ clear-split t k j small e =
 pub clear-is : (t k : ℕ) → t < 2 ^ 32 → k < 32 → bitAnd t ((2 ^ 32 - 1) - 1 * 2 ^ k % 2 ^ 32) ≡ cleared k t
 clear-is t k small h = ap (λ (x : ℕ). bitAnd t ((2 ^ 32 - 1) - x)) (one-at k h) ∙ clear-split t k (31 - k) small (omega arith)
 
--- t & (1 << k), and t | (1 << k) where bit k is 0
+-- t & (1 << k)
 pub test-is : (t k : ℕ) → bitAnd t (2 ^ k) ≡ bitAt k t * 2 ^ k
 test-is t k =
     ap₂ bitAnd (sym (split t k)) (sym (one-mul (2 ^ k)) ∙ sym (add-zero (1 * 2 ^ k)))
     ∙ and-block k (t / 2 ^ k) 1 (t % 2 ^ k) 0 (mod-lt t (pow-pos k)) (pow-pos k)
     ∙ ap₂ (λ (x y : ℕ). x * 2 ^ k + y) (and-mask (t / 2 ^ k) 1) (and-zero-r (t % 2 ^ k))
     ∙ add-zero (t / 2 ^ k % 2 * 2 ^ k)
-
-pub set-is : (t k : ℕ) → k < 32 → bitAt k t ≡ 0 → bitOr t (1 * 2 ^ k % 2 ^ 32) ≡ t + 2 ^ k
-set-is t k h z = ap (bitOr t) (one-at k h) ∙ or-disjoint t (2 ^ k) (test-is t k ∙ ap (λ (x : ℕ). x * 2 ^ k) z ∙ zero-mul (2 ^ k))

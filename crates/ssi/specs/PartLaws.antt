@@ -4,16 +4,16 @@ use mathlib.Core.Path.{_≡_, refl, sym, ap, ap₂, _∙_, subst}
 use mathlib.Core.Bool.{Bool, true, false}
 use mathlib.Core.Logic.{_⊎_, inl, inr, ⊎-elim}
 use Prim.Native.Nat.{ℕ, zero, suc, _+_, _-_, _*_, _/_, _%_, _^_, _≤_, _<_}
-use native.Mathlib.Nat.{lt-of-lt-of-le, lt-of-le-of-lt, mod-lt, mod-eq-of-lt, mul-assoc, add-mul, one-mul, zero-mul, add-zero, pow-succ', add-div-right, div-add-mod', div-eq-of-lt, mul-mod-left, add-mul-div-right, zero-add, suc-add}
+use native.Mathlib.Nat.{lt-of-lt-of-le, lt-of-le-of-lt, mod-lt, mod-eq-of-lt, mul-assoc, add-mul, one-mul, zero-mul, add-zero, div-add-mod', div-eq-of-lt, mul-mod-left, add-mul-div-right, zero-add, suc-add}
 use native.Mathlib.Omega.{arith}
 use lib.Arith.{lt-one}
-use lib.Bits.{bitOr, bitAnd, shifted-even, xor-lt, or-lt, or-disjoint, or-shr, or-mod, or-zero-r, and-mask, and-zero-r}
+use lib.Bits.{bitOr, bitAnd, shifted-even, xor-lt, or-lt, or-disjoint, or-shr, or-mod, or-zero-r}
 use lib.Dec.{lit<, ltb}
 use borrow.Author.Tests.{ltb-true, ltb-false}
-use lib.Pow.{pow-pos, pow-mono, pow-lt, pow-add, split, high, shl-lt, shr-lt, shl-shr, shr-mod, shr-le, mod-pow-add, shl-exact, recompose}
+use lib.Pow.{pow-pos, pow-mono, pow-add, split, high, shl-lt, shr-lt, shl-shr, shr-mod, shr-le, mod-pow-add, shl-exact, recompose}
 use Rattle.ssi.specs.Telegram.{levelOf, worth, withoutBit, grayDecoded, decoded}
 use Rattle.ssi.specs.Builder.{grayCode, coded}
-use Rattle.ssi.specs.FieldLaws.{bitAt, cleared, joined, one-at, test-is, clear-is}
+use Rattle.ssi.specs.FieldLaws.{bitAt, cleared, joined, test-is}
 use Rattle.ssi.specs.GrayLaws.{grayCounted, counted-lt, counted-wide, shift-counted, code-counted, counted-code, decoded-own}
 
 -- ---- one bit taken as 0
@@ -53,7 +53,6 @@ level-without (suc k) t =
     ∙ ap (λ (x : ℕ). x % 2) (high (t / 2 ^ k / 2 * 2) k (mod-lt t (pow-pos k))) ∙ mul-mod-left (t / 2 ^ k / 2) 2
 
 -- ---- one bit put beside a number that does not have it
--- as the code does it
 beside : (k x v : ℕ) → v < 2 → bitAt k x ≡ 0 → bitOr x (v * 2 ^ k) ≡ x + v * 2 ^ k
 beside k x zero h z = ap (bitOr x) (zero-mul (2 ^ k)) ∙ or-zero-r x ∙ sym (add-zero x) ∙ ap (λ (y : ℕ). x + y) (sym (zero-mul (2 ^ k)))
 beside k x (suc zero) h z =
@@ -71,8 +70,7 @@ mark-lt zero N x v l b z h = subst (λ (y : ℕ). x + y < 2 ^ N) (sym (times-zer
 mark-lt (suc k) N x v l b z h =
     subst (λ (y : ℕ). y < 2 ^ N) (beside k x v b z) (or-lt N x (v * 2 ^ k) h (lt-of-lt-of-le (shl-lt 1 k b) (pow-mono (omega arith))))
 
--- the bit reads as it was put, is taken away again, and leaves every other bit alone
--- the code's shift of one bit
+-- as the code puts it
 pub mark-is : (e x v : ℕ) → 1 ≤ e → e ≤ 32 → v < 2 → levelOf e x ≡ 0 → bitOr x (v * 2 ^ (e - 1) % 2 ^ 32) ≡ x + v * worth e
 mark-is zero x v o l b z = absurd (not-one o)
   where
@@ -84,6 +82,7 @@ mark-is (suc k) x v o l b z =
     less : (k : ℕ) → suc k - 1 ≡ k
     less k = omega arith
 
+-- it reads as it was put, and is taken away again
 cancelled : (a b c x : ℕ) → a + b ≡ x + c → b ≡ c → a ≡ x
 cancelled a b c x h e = omega arith
 
@@ -103,6 +102,7 @@ without-mark (suc k) x v b z =
     let y = x + v * 2 ^ k in
     cancelled (withoutBit (suc k) y) (bitAt k y * 2 ^ k) (v * 2 ^ k) x (without-sum (suc k) y) (ap (λ (u : ℕ). u * 2 ^ k) (level-mark (suc k) x v (omega arith) b z))
 
+-- one bit of two numbers together
 bit-or : (i a b : ℕ) → bitAt i (bitOr a b) ≡ bitOr (bitAt i a) (bitAt i b)
 bit-or i a b = ap (λ (x : ℕ). x % 2) (or-shr a b i) ∙ or-mod (a / 2 ^ i) (b / 2 ^ i) 1
 
@@ -139,6 +139,7 @@ other-bit i k v b n = ⊎-elim (λ h. bit-below v k i h) (λ h. bit-above v k 1 
     sides : (i k : ℕ) → (i ≡ k → ⊥) → (i < k) ⊎ (1 + k ≤ i)
     sides i k n = tested i k (ltb i k) refl n
 
+-- a bit put beside a number leaves every other bit as it is
 pub level-beside : (n e x v : ℕ) → (n ≡ e → ⊥) → v < 2 → levelOf e x ≡ 0 → levelOf n (x + v * worth e) ≡ levelOf n x
 level-beside zero e x v d b z = refl
 level-beside (suc i) zero x v d b z = ap (bitAt i) (no-mark x v)

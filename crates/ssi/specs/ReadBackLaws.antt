@@ -1,19 +1,19 @@
 -- The parts of the two read-back laws: what the builder puts into a telegram is what reading takes out of it, and the other way.
 use mathlib.Core.Path.{_≡_, refl, sym, ap, ap₂, _∙_, subst}
-use mathlib.Core.Bool.{Bool, true, false, _&&_, cond, and-false}
+use mathlib.Core.Bool.{Bool, true, false, _&&_}
 use mathlib.Core.Logic.{_⊎_, inl, inr}
 use Prim.Native.Nat.{ℕ, zero, suc, _+_, _-_, _*_, _/_, _%_, _^_, _≤_, _<_}
 use native.Mathlib.Nat.{lt-of-lt-of-le, lt-of-le-of-lt}
 use native.Mathlib.Omega.{arith}
-use borrow.Author.Tests.{ltb-true, ltb-false, lt-ltb, le-ltb, lt-leb, eqb-true, eqb-false, eq-eqb, ne-eqb}
-use lib.Dec.{ltb, leb, eqb}
+use borrow.Author.Tests.{ltb-true, ltb-false, lt-ltb, lt-leb, eqb-true, eqb-false, eq-eqb, ne-eqb}
+use lib.Dec.{ltb, eqb}
 use lib.Pow.{pow-mono, shl-lt}
 use Rattle.ssi.specs.declared.Layout.{Layout}
 use Rattle.ssi.specs.Sound.{Sound, errorBit, errorLevel}
 use Rattle.ssi.specs.Telegram.{accepted, errorReported, positionOf, readingOf, modulus, levelOf, worth, withoutBit, decoded}
 use Rattle.ssi.specs.Builder.{coded, levelAsked, telegramOf, builtOf, BlankZero}
 use Rattle.ssi.specs.PartLaws.{coded-lt, level-outside, level-lt, level-mark, level-without, level-beside, without-mark, without-sum, without-le, mark-lt, field-read, field-built, low-zero, high-zero}
-use Rattle.ssi.specs.SoundLaws.{field-fits, outside-field, position-lt}
+use Rattle.ssi.specs.SoundLaws.{field-fits, outside-field}
 
 -- the level asked for is 0 or 1
 pub asked-lt : (l : Layout) (asked : Bool) → Sound l → levelAsked l asked < 2

@@ -1,6 +1,6 @@
 -- What a telegram says: its bits B to H, decoded where the format is Gray, are its position p.
 -- Paper 01, "From telegram to result", first paragraph. Bit 1 is the lowest.
-use mathlib.Core.Bool.{Bool, true, false, cond, _&&_}
+use mathlib.Core.Bool.{Bool, false, cond, _&&_}
 use Prim.Native.Nat.{ℕ, zero, suc, _+_, _-_, _*_, _/_, _%_, _^_}
 use lib.Count.{onesIn}
 use lib.Dec.{ltb, eqb}
@@ -31,11 +31,12 @@ errorReported l t = ltb 0 (errorBit l) && eqb (levelOf (errorBit l) t) (errorLev
 abbrev pub withoutBit : ℕ → ℕ → ℕ
 withoutBit n t = t - levelOf n t * worth n
 
--- the ones of t above its k low bits, up to bit N
+-- the ones of t at bit k + 1 and above, up to bit N
 abbrev pub onesAbove : ℕ → ℕ → ℕ → ℕ
 onesAbove N k t = onesIn (N - k) (t / 2 ^ k)
 
--- "Gray: a bit of the position is 1 when an odd number of ones stands at it and above, up to bit N": the n low bits of the position
+-- "Gray: a bit of the position is 1 when an odd number of ones stands at it and above, up to bit N".
+-- The n low bits of the position; GrayLaws, `decoded-xor`, has the same by exclusive or
 unfoldable pub grayDecoded : ℕ → ℕ → ℕ → ℕ
 unfolding onesIn
 grayDecoded N zero t = 0
@@ -46,9 +47,12 @@ abbrev pub decoded : ℕ → ℕ → ℕ → ℕ
 decoded zero N t = grayDecoded N N t
 decoded (suc f) N t = t
 
--- M, how many positions there are
+-- "M is 2 to the power H − B + 1": how many positions there are
+abbrev pub widthOf : Layout → ℕ
+widthOf l = l .high - l .low + 1
+
 abbrev pub modulus : Layout → ℕ
-modulus l = 2 ^ (l .high - l .low + 1)
+modulus l = 2 ^ widthOf l
 
 -- "Then bits B to H give the position p": of any telegram, since bits above N do not count
 unfoldable pub positionOf : Layout → ℕ → ℕ

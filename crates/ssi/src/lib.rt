@@ -5,7 +5,7 @@ ghost use mathlib.Core.Bool.{_&&_};
 ghost use Prim.Native.Nat.{_-_, _^_, _≤_, _<_};
 ghost use lib.Dec.{eqb};
 ghost use Rattle.ssi.specs.Sound.{Sound, errorBit};
-ghost use Rattle.ssi.specs.Telegram.{accepted, levelOf, errorReported, withoutBit, grayDecoded, decoded, modulus, positionOf, readingOf, diagnosisOf};
+ghost use Rattle.ssi.specs.Telegram.{accepted, levelOf, errorReported, withoutBit, grayDecoded, decoded, widthOf, modulus, positionOf, readingOf, diagnosisOf};
 ghost use Rattle.ssi.specs.Builder.{coded, levelAsked, telegramOf, builtOf};
 
 // How a telegram is laid out, as the table has it.
@@ -58,6 +58,14 @@ fn mask(width: u32) -> u32
     ensures { λ r. ⌜ r ≡ 2 ^ width - 1 ⌝ }
 {
     0xffff_ffff >> (32 - width)
+}
+
+// The width of the field, H - B + 1: M is 2 to its power.
+pub fn width(l: Layout) -> u32
+    requires { ⌜ Sound l ⌝ }
+    ensures { λ r. ⌜ r ≡ widthOf l ⌝ }
+{
+    l.high - l.low + 1
 }
 
 // The level of bit n, 0 where n is 0.
@@ -133,7 +141,7 @@ pub fn position(l: Layout, t: u32) -> u32
     ensures { λ r. ⌜ r ≡ positionOf l t ⌝ }
 {
     let bits = decode(l.format, l.resolution, without(t, l.error_bit));
-    (bits >> (l.low - 1)) & mask(l.high - l.low + 1)
+    (bits >> (l.low - 1)) & mask(width(l))
 }
 
 // A telegram read: its position and its error, or 11.
@@ -223,7 +231,7 @@ pub fn build(l: Layout, position: u32, error: bool) -> Built
     requires { ⌜ Sound l ⌝ }
     ensures { λ r. ⌜ r ≡ builtOf l position error ⌝ }
 {
-    if mask(l.high - l.low + 1) < position {
+    if mask(width(l)) < position {
         return Built {
             refusal: 17,
             telegram: 0,

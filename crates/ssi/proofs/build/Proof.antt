@@ -1,6 +1,6 @@
 -- `ssi::build` meets its contract: a position above the mask is M or more, and each test answers for one refusal.
-use mathlib.Core.Path.{_≡_, sym, _∙_}
-use Prim.Native.Nat.{_+_, _-_, _^_, _≤_, _<_}
+use mathlib.Core.Path.{_≡_, sym, ap, _∙_}
+use Prim.Native.Nat.{ℕ, suc, _^_, _≤_, _<_}
 use native.Mathlib.Omega.{arith}
 use borrow.Author.Tests.{le-leb, lt-leb}
 use lib.Pow.{suc-ones}
@@ -10,20 +10,21 @@ use borrow.Author.Needs.{needs}
 use Rattle.ssi.proofs.build.Statement.{statement}
 use Rattle.ssi.proofs.build.Tie as tie
 
-sub-mask : tie.Need-sub-mask
-sub-mask c = search needs
-
-add-mask : tie.Need-add-mask
-add-mask c = search needs
+width-requires : tie.Need-width-requires
+width-requires c κs = search needs
 
 mask-requires : tie.Need-mask-requires
 mask-requires c κs = search needs
 
+-- one more than the mask is M
+mask-modulus : (c : tie.After-mask) → suc (c .mask .result) ≡ modulus (c .before .before .args .l)
+mask-modulus c = ap suc (c .mask .ensures) ∙ suc-ones (c .before .width .result) ∙ ap (λ (x : ℕ). 2 ^ x) (c .before .width .ensures)
+
 too-big : (c : tie.Then1) → modulus (c .before .before .before .args .l) ≤ c .before .before .before .args .position
-too-big c = omega (arith, suc-ones (c .before .before .before .args .l .high - c .before .before .before .args .l .low + 1), c .before .mask .ensures, c .if1 .taken)
+too-big c = omega (arith, mask-modulus (c .before), c .if1 .taken)
 
 small : (c : tie.Else1) → c .before .before .before .args .position < modulus (c .before .before .before .args .l)
-small c = omega (arith, suc-ones (c .before .before .before .args .l .high - c .before .before .before .args .l .low + 1), c .before .mask .ensures, c .if1 .left)
+small c = omega (arith, mask-modulus (c .before), c .if1 .left)
 
 returns : tie.Need-returns
 unfolding builtOf
@@ -47,8 +48,7 @@ pub build-spec : {M : Type 1} → statement M
 build-spec =
     tie.close
     (tie.spec
-    sub-mask
-    add-mask
+    width-requires
     mask-requires
     returns
     lacks-error-bit-requires

@@ -1,5 +1,5 @@
 -- `ssi::gray` meets its contract. The invariant: p has the position's k low bits. The measure is what is left of the n bits.
-use Prim.Native.Nat.{ℕ, _-_, _≤_, _%_, _^_}
+use Prim.Native.Nat.{_-_, _≤_}
 use mathlib.Core.Path.{_≡_, refl, ap, _∙_}
 use native.Mathlib.Omega.{arith}
 use lib.Bits.{bitAnd, and-mask}

@@ -17,18 +17,15 @@ sub-result c = search needs
 shr-result : tie.Need-shr-result
 shr-result c = search needs
 
-sub-mask : tie.Need-sub-mask
-sub-mask c = search needs
-
-add-mask : tie.Need-add-mask
-add-mask c = search needs
+width-requires : tie.Need-width-requires
+width-requires c κs = search needs
 
 mask-requires : tie.Need-mask-requires
 mask-requires c κs = search needs
 
 returns : tie.Need-returns
 unfolding positionOf
-returns c = rw (c .mask .ensures, c .before .before .before .decode .ensures, c .before .before .before .before .without .ensures) (and-mask _ _)
+returns c = rw (c .mask .ensures, c .before .width .ensures, c .before .before .before .decode .ensures, c .before .before .before .before .without .ensures) (and-mask _ _)
 
 pub position-spec : {M : Type 1} → statement M
 position-spec =
@@ -38,7 +35,6 @@ position-spec =
     decode-requires
     sub-result
     shr-result
-    sub-mask
-    add-mask
+    width-requires
     mask-requires
     returns)
