@@ -172,6 +172,9 @@ pub within : (A : ℕ) (z : ℤ) → P z ≤ A + N z → N z ≤ A + P z → Wit
 within A (pos n) h k = record { above = omega arith; below = omega arith }
 within A (negsuc n) h k = record { above = omega arith; below = omega arith }
 
+pub wider : {A B : ℕ} {z : ℤ} → Within A z → A ≤ B → Within B z
+wider h l = record { above = omega (arith, h .above); below = omega (arith, h .below) }
+
 pub mul-within : {A B : ℕ} {a b : ℤ} → Within A a → Within B b → Within (A * B) (a *ℤ b)
 mul-within {A} {B} {a = pos a} {b = pos b} h k = record { above = mul-le-mul (h .above) (k .above); below = omega arith }
 mul-within {A} {B} {a = pos a} {b = negsuc b} h k =

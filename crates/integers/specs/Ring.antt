@@ -9,7 +9,7 @@ use lib.Dec.{T}
 use lib.IntN.{ℤ, pos, negsuc, negℤ, natAbs, _+ℤ_, _-ℤ_, _*ℤ_}
 use lib.Signed.{leZ, ltZ, nonNeg, _≤ℤ_, _<ℤ_}
 use Rattle.integers.specs.Choice.{is-false}
-use Rattle.integers.specs.Int.{P, N, leZ-false, ltZ-false, add-is, sub-is, mul-is, neg-P, neg-N, abs-is, excl, eq-of, eq-to, le-of, le-to, lt-of, lt-to}
+use Rattle.integers.specs.Int.{P, N, leZ-false, ltZ-true, ltZ-false, add-is, sub-is, mul-is, neg-P, neg-N, abs-is, excl, eq-of, eq-to, le-of, le-to, lt-of, lt-to}
 
 infixl 6 _⊕_ _⊖_
 infixl 7 _⊗_
@@ -125,6 +125,16 @@ lt-by e f h = (lt e f h) .lt
 
 pub nle→le : (a b : ℤ) → T (not (leZ a b)) → T (leZ b a)
 nle→le a b t = let h = nle-ex (var a) (var b) t in le-by (var b) (var a) (omega arith)
+
+pub le→nlt : (a b : ℤ) → T (leZ b a) → T (not (ltZ a b))
+le→nlt a b t = go (ltZ a b) refl
+  where
+    go : (c : Bool) → ltZ a b ≡ c → T (not c)
+    go true e = absurd (omega (arith, le-ex (var b) (var a) t, ltZ-true a b e))
+    go false e = tt
+
+pub nle→lt : (a b : ℤ) → T (not (leZ a b)) → T (ltZ b a)
+nle→lt a b t = let h = nle-ex (var a) (var b) t in lt-by (var b) (var a) (omega arith)
 
 pub nonNeg-N : (a : ℤ) → T (nonNeg a) → N a ≡ 0
 nonNeg-N (pos n) t = refl

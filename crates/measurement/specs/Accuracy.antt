@@ -19,7 +19,7 @@ use Rattle.measurement.specs.declared.Error.the-variants as Error
 use Rattle.measurement.specs.declared.Measured.{Measured}
 use Rattle.measurement.specs.declared.Scaling.{Scaling}
 use Rattle.measurement.specs.Fraction.{Frac, Ratio, atMost, whole, nearest, gap, apart, allowed, Accurate}
-use Rattle.measurement.specs.Curve.{Point, curve, linearized, fourQuadrants, oneQuadrant, steepest, steepestFrom, rising, origin, Ordered}
+use Rattle.measurement.specs.Curve.{Point, curve, linearizedOf, fourQuadrants, oneQuadrant, steepest, steepestFrom, rising, origin, Ordered}
 use Rattle.measurement.specs.CurveLaws.{Lip, triangle, lip-four, lip-one, steepest-over, steepest-low, four-den, one-den}
 use Rattle.measurement.specs.Measure.{Z, scaledOf, exact, errorNumber, measured, judgedOf, usedPoints, valueOf, measuredOf, exactOf, exactCurve, distanceOf}
 
@@ -80,8 +80,8 @@ half : (v : ℤ) (E : Frac) → 2 * gap (whole v) E ≤ E .den → atMost (apart
 half v E h = omega arith
 
 near-curve : (m : ℕ) (ps : List Point) → Ordered m ps → (d : ℤ) (f g : ℕ) (A : ℤ) → 0 < g →
-    atMost (apart (whole (linearized m ps (scaledOf d f g A))) (curve m ps (exact d f g A))) (allowed (steepest m ps))
-unfolding linearized curve steepest
+    atMost (apart (whole (linearizedOf m ps (scaledOf d f g A))) (curve m ps (exact d f g A))) (allowed (steepest m ps))
+unfolding linearizedOf curve steepest
 near-curve zero ps o d f g A h = rw (round-one (scaledOf d f g A)) (half (scaledOf d f g A) (exact d f g A) (scaled-gap d f g A h))
 near-curve (suc m) ps o d f g A h =
     through (steepest (suc m) ps) (scaledOf d f g A) (exact d f g A) (curve (suc m) ps (whole (scaledOf d f g A))) (curve (suc m) ps (exact d f g A))
@@ -89,7 +89,7 @@ near-curve (suc m) ps o d f g A h =
 
 -- steps 3 and 4 together
 pub accuracy : (m : ℕ) (ps : List Point) → Ordered m ps → (d : ℤ) (f g : ℕ) (A : ℤ) → 0 < g →
-    Accurate (linearized m ps (scaledOf d f g A)) (curve m ps (exact d f g A)) (steepest m ps)
+    Accurate (linearizedOf m ps (scaledOf d f g A)) (curve m ps (exact d f g A)) (steepest m ps)
 accuracy m ps o d f g A h =
     record { near = near-curve m ps o d f g A h; u-low = curve-low m ps o (exact d f g A) h; S-low = steepest-above m ps o }
 

@@ -42,6 +42,10 @@ line p p₁ q =
       den = natAbs (p₁ .x -ℤ p .x) * q .den;
     }
 
+-- "the whole fraction rounded once": the line from (x, y) to (x₁, y₁) at the whole number v
+unfoldable pub lineValue : ℤ → ℤ → ℤ → ℤ → ℤ → ℤ
+lineValue x y x₁ y₁ v = nearest (line (record { x = x; y = y }) (record { x = x₁; y = y₁ }) (whole v))
+
 -- from p on: the line to the next point, what follows it, or the last point's y beyond the end
 unfoldable pub rightOf : Point → List Point → Frac → Frac
 rightOf p [] q = whole (p .y)
@@ -63,8 +67,8 @@ curve (suc zero) ps q = oneQuadrant ps q
 curve (suc (suc m)) ps q = fourQuadrants ps q
 
 -- step 4: the straight line's whole fraction rounded once; with the mode off, v
-unfoldable pub linearized : ℕ → List Point → ℤ → ℤ
-linearized m ps v = nearest (curve m ps (whole v))
+unfoldable pub linearizedOf : ℕ → List Point → ℤ → ℤ
+linearizedOf m ps v = nearest (curve m ps (whole v))
 
 -- |change of y| ÷ change of x
 abbrev pub slope : Point → Point → Ratio

@@ -2,4 +2,6 @@ pub mod Fraction
 pub mod Curve
 pub mod Measure
 pub mod CurveLaws
+pub mod Search
+pub mod Range
 pub mod Accuracy

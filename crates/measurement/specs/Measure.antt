@@ -13,7 +13,7 @@ use Rattle.measurement.specs.declared.Error.the-variants as Error
 use Rattle.measurement.specs.declared.Measured.{Measured}
 use Rattle.measurement.specs.declared.Scaling.{Scaling}
 use Rattle.measurement.specs.Fraction.{Frac}
-use Rattle.measurement.specs.Curve.{Point, pointsFrom, curve, linearized}
+use Rattle.measurement.specs.Curve.{Point, pointsFrom, curve, linearizedOf}
 
 -- Z, the largest number shown
 abbrev pub Z : ℕ
@@ -58,7 +58,7 @@ unfoldable pub usedPoints : Scaling → List ℤ → List Point
 usedPoints s ws = pointsFrom ws 0 (s .points)
 
 unfoldable pub valueOf : Scaling → List ℤ → ℕ → ℤ
-valueOf s ws p = linearized (s .linearization) (usedPoints s ws) (scaledOf (distanceOf p (s .offset) (s .round)) (s .factor) (s .divider) (s .additive))
+valueOf s ws p = linearizedOf (s .linearization) (usedPoints s ws) (scaledOf (distanceOf p (s .offset) (s .round)) (s .factor) (s .divider) (s .additive))
 
 -- the result and the error of a reading
 unfoldable pub measuredOf : Scaling → List ℤ → ℕ → Bool → Measured

@@ -1,10 +1,16 @@
 // From a position to the result: direction, offset, round loop, scaling, linearization and the range error.
 // Uses `integers` for the rounding division and the remainder; knows plain numbers and the points' words, no slots.
+ghost use mathlib.Core.Bool.{cond};
 ghost use mathlib.Core.Path.{_≡_};
 ghost use Prim.Native.Nat.{_+_, _*_, _^_, _≤_, _<_};
-ghost use Rattle.measurement.specs.Curve.{highestOf};
+ghost use lib.ListN.{length};
+ghost use lib.Signed.{leZ};
 ghost use Rattle.integers.specs.Int.{Within};
-ghost use Rattle.measurement.specs.Measure.{turnedOf, distanceOf, scaledOf, judgedOf};
+ghost use Rattle.measurement.specs.Fraction.{whole, nearest};
+ghost use Rattle.measurement.specs.Curve.{highestOf, lineValue, pointsFrom, fourQuadrants, oneQuadrant, linearizedOf};
+ghost use Rattle.measurement.specs.Measure.{turnedOf, distanceOf, scaledOf, judgedOf, measuredOf};
+ghost use Rattle.measurement.specs.Search.{OnLine, Usable};
+ghost use Rattle.measurement.specs.Range.{Linearizable, Sound};
 
 // What is wrong with a reading.
 pub enum Error {
@@ -96,4 +102,99 @@ pub fn judged(reported: bool, v: i64) -> Measured
         return Measured { result: 0, error: Error::BelowRange };
     }
     Measured { result: v as i32, error: Error::None }
+}
+
+// The later of two findings: point i where its x is at most v, else the one found before.
+fn later(found: Found, i: usize, x: i32, v: i64) -> Found
+    ensures { λ r. ⌜ r ≡ cond (leZ x v) (Found.At i) found ⌝ }
+{
+    if x as i64 <= v {
+        return Found::At(i);
+    }
+    found
+}
+
+// The highest of the first n control points whose x is at most v, or none.
+pub fn highest(points: &[i32], n: usize, v: i64) -> Found
+    requires { ⌜ 2 * n ≤ length (now points) ⌝ }
+    ensures { λ r. ⌜ r ≡ highestOf (now (points .entry)) n v ⌝ }
+{
+    let mut found = Found::Nothing;
+    let mut i: usize = 0;
+    while i < n {
+        found = later(found, i, points[2 * i], v);
+        i += 1;
+    }
+    found
+}
+
+// The straight line from (x, y) to (x1, y1) at v: the whole fraction, rounded once.
+pub fn on_line(x: i32, y: i32, x1: i32, y1: i32, v: i64) -> i64
+    requires { ⌜ OnLine x y x1 y1 v ⌝ }
+    ensures { λ r. ⌜ r ≡ lineValue x y x1 y1 v ⌝ }
+{
+    let dx = x1 as i64 - x as i64;
+    let dy = y1 as i64 - y as i64;
+    let start = y as i64 * dx;
+    let rise = (v - x as i64) * dy;
+    integers::round_div(start + rise, dx)
+}
+
+// From point i on, the highest with x at most v: the line to the next point, or its own y beyond the last.
+fn from_point(points: &[i32], n: usize, i: usize, v: i64) -> i64
+    requires { ⌜ Usable (now points) n × (highestOf (now points) n v ≡ Found.At i) ⌝ }
+    ensures { λ r. ⌜ r ≡ nearest (fourQuadrants (pointsFrom (now (points .entry)) 0 n) (whole v)) ⌝ }
+{
+    let k = 2 * i;
+    if i + 1 == n {
+        return points[k + 1] as i64;
+    }
+    on_line(points[k], points[k + 1], points[k + 2], points[k + 3], v)
+}
+
+// Four quadrants: the curve at v, rounded once; before the first point its y.
+pub fn four_quadrants(points: &[i32], n: usize, v: i64) -> i64
+    requires { ⌜ Usable (now points) n ⌝ }
+    ensures { λ r. ⌜ r ≡ nearest (fourQuadrants (pointsFrom (now (points .entry)) 0 n) (whole v)) ⌝ }
+{
+    match highest(points, n, v) {
+        Found::At(i) => from_point(points, n, i, v),
+        Found::Nothing => points[1] as i64,
+    }
+}
+
+// One quadrant: a negative v gives minus the value for -v.
+pub fn one_quadrant(points: &[i32], n: usize, v: i64) -> i64
+    requires { ⌜ Usable (now points) n × Within 50000000000000000 v ⌝ }
+    ensures { λ r. ⌜ r ≡ nearest (oneQuadrant (pointsFrom (now (points .entry)) 0 n) (whole v)) ⌝ }
+{
+    if v < 0 {
+        return 0 - four_quadrants(points, n, 0 - v);
+    }
+    four_quadrants(points, n, v)
+}
+
+// Step 4: by the mode, 0 off, 1 one quadrant, 2 four.
+pub fn linearized(mode: u32, points: &[i32], n: usize, v: i64) -> i64
+    requires { ⌜ Linearizable mode (now points) n × Within 50000000000000000 v ⌝ }
+    ensures { λ r. ⌜ r ≡ linearizedOf mode (pointsFrom (now (points .entry)) 0 n) v ⌝ }
+{
+    if mode == 0 {
+        return v;
+    }
+    if mode == 1 {
+        return one_quadrant(points, n, v);
+    }
+    four_quadrants(points, n, v)
+}
+
+// Steps 2 to 5: the result and the error of a position after direction.
+pub fn measure(s: Scaling, points: &[i32], p: u32, reported: bool) -> Measured
+    requires { ⌜ Sound s (now points) ⌝ }
+    ensures { λ r. ⌜ r ≡ measuredOf s (now (points .entry)) p reported ⌝ }
+{
+    let d = distance(p, s.offset, s.round);
+    let v = scaled(d, s.factor, s.divider, s.additive);
+    let w = linearized(s.linearization, points, s.points, v);
+    judged(reported, w)
 }

@@ -1,0 +1,136 @@
+-- `measurement::from_point` meets its contract: past the last point its y (`value-last`), else the line to the next point (`value-words`).
+use borrow.Author.Needs.{needs}
+use mathlib.Core.Path.{_≡_, sym, ap, _∙_}
+use Prim.Native.Nat.{_+_, _*_, _≤_, _<_}
+use native.Mathlib.Omega.{arith}
+use lib.IntN.{pos}
+use lib.ListN.{length, getD}
+use mir.Syntax.{w32, w64}
+use mir.Val.{SFits}
+use mir.Facts.{toZ-ofZ}
+use Rattle.integers.specs.Int.{ints, back-at}
+use Rattle.integers.specs.RoundLaws.{round-one}
+use Rattle.measurement.specs.Fraction.{nearest}
+use Rattle.measurement.specs.Search.{found-at, value-last, value-words, on-words}
+use Rattle.measurement.proofs.from_point.Statement.{statement}
+use Rattle.measurement.proofs.from_point.Tie as tie
+
+-- the words of point i are there, and those of the next if there is one
+here : (s : tie.Start) → 2 * s .args .i + 2 ≤ length (s .args .points .now)
+here s = omega (arith, found-at _ _ _ _ (s .pre .1) .used, s .pre .0 .long)
+
+mul-k : tie.Need-mul-k
+mul-k c = let h = here c in search needs
+
+add-if1 : tie.Need-add-if1
+add-if1 c = let h = here c in search needs
+
+add-result : tie.Need-add-result
+add-result c = let h = here (c .before) in search needs
+
+mul-result : tie.Need-mul-result
+mul-result c = let h = here (c .before) in search needs
+
+shared-slice-copy-out-result : tie.Need-shared-slice-copy-out-result
+shared-slice-copy-out-result c = let h = here (c .before) in search needs
+
+cast-result : tie.Need-cast-result
+cast-result c =
+    let f : SFits w32 (getD (c .before .before .args .points .now) (2 * c .before .before .args .i + 1) (pos 0)) = record { sfits = c .result .given } in
+    omega (arith, ints)
+
+returns : tie.Need-returns
+returns c =
+    let s = c .before .before in
+    let ws = s .args .points .now in
+    rw (toZ-ofZ (cast-result c), back-at w32 (getD ws (2 * s .args .i + 1) (pos 0)) (c .result .given))
+    (sym (ap nearest (value-last (s .pre .0) (s .args .v) (s .args .i) (s .pre .1) (c .before .if1 .taken)) ∙ round-one _))
+
+more : (c : tie.Else1) → c .before .args .i + 1 < c .before .args .n
+more c = omega (arith, c .if1 .left, found-at _ _ _ _ (c .before .pre .1) .used)
+
+both : (c : tie.Else1) → 2 * c .before .args .i + 4 ≤ length (c .before .args .points .now)
+both c = omega (arith, more c, c .before .pre .0 .long)
+
+mul-on-line : tie.Need-mul-on-line
+mul-on-line c = let h = both c in search needs
+
+shared-slice-copy-out-on-line : tie.Need-shared-slice-copy-out-on-line
+shared-slice-copy-out-on-line c = let h = both c in omega arith
+
+add-on-line : tie.Need-add-on-line
+add-on-line c = let h = both (c .before) in search needs
+
+mul-on-line-2 : tie.Need-mul-on-line-2
+mul-on-line-2 c = let h = both (c .before) in search needs
+
+shared-slice-copy-out-on-line-2 : tie.Need-shared-slice-copy-out-on-line-2
+shared-slice-copy-out-on-line-2 c = let h = both (c .before) in omega arith
+
+add-on-line-2 : tie.Need-add-on-line-2
+add-on-line-2 c = let h = both (c .before .before) in search needs
+
+mul-on-line-3 : tie.Need-mul-on-line-3
+mul-on-line-3 c = let h = both (c .before .before) in search needs
+
+shared-slice-copy-out-on-line-3 : tie.Need-shared-slice-copy-out-on-line-3
+shared-slice-copy-out-on-line-3 c = let h = both (c .before .before) in omega arith
+
+add-on-line-3 : tie.Need-add-on-line-3
+add-on-line-3 c = let h = both (c .before .before .before) in search needs
+
+mul-on-line-4 : tie.Need-mul-on-line-4
+mul-on-line-4 c = let h = both (c .before .before .before) in search needs
+
+shared-slice-copy-out-on-line-4 : tie.Need-shared-slice-copy-out-on-line-4
+shared-slice-copy-out-on-line-4 c = let h = both (c .before .before .before) in omega arith
+
+on-line-requires : tie.Need-on-line-requires
+on-line-requires c κs =
+    let s = c .before .before .before .before .before in
+    let i = s .args .i in
+    let ws = s .args .points .now in
+    rw (back-at w32 (getD ws (2 * i) (pos 0)) (c .before .before .before .on-line-arg .given),
+        back-at w32 (getD ws (2 * i + 1) (pos 0)) (c .before .before .on-line-arg2 .given),
+        back-at w32 (getD ws (2 * i + 2) (pos 0)) (c .before .on-line-arg3 .given),
+        back-at w32 (getD ws (2 * i + 3) (pos 0)) (c .on-line-arg4 .given),
+        toZ-ofZ (s .fits .v))
+    (on-words (s .pre .0) (s .args .v) i (s .pre .1) (more (c .before .before .before .before)))
+
+returns-2 : tie.Need-returns-2
+returns-2 c =
+    let b = c .before in
+    let s = b .before .before .before .before .before in
+    let i = s .args .i in
+    let ws = s .args .points .now in
+    let e = rw (back-at w32 (getD ws (2 * i) (pos 0)) (b .before .before .before .on-line-arg .given),
+        back-at w32 (getD ws (2 * i + 1) (pos 0)) (b .before .before .on-line-arg2 .given),
+        back-at w32 (getD ws (2 * i + 2) (pos 0)) (b .before .on-line-arg3 .given),
+        back-at w32 (getD ws (2 * i + 3) (pos 0)) (b .on-line-arg4 .given),
+        toZ-ofZ (s .fits .v)) at (c .on-line .ensures) in
+    rw (back-at w64 (c .on-line .result) (c .on-line .ok)) (e ∙ sym (value-words (s .pre .0) (s .args .v) i (s .pre .1) (more (b .before .before .before .before))))
+
+pub from-point-spec : {M : Type 1} → statement M
+from-point-spec =
+    tie.close
+    (tie.spec
+    mul-k
+    add-if1
+    add-result
+    mul-result
+    shared-slice-copy-out-result
+    cast-result
+    returns
+    mul-on-line
+    shared-slice-copy-out-on-line
+    add-on-line
+    mul-on-line-2
+    shared-slice-copy-out-on-line-2
+    add-on-line-2
+    mul-on-line-3
+    shared-slice-copy-out-on-line-3
+    add-on-line-3
+    mul-on-line-4
+    shared-slice-copy-out-on-line-4
+    on-line-requires
+    returns-2)

@@ -1,0 +1,56 @@
+-- `measurement::measure` meets its contract: each step's answer is the next step's argument, and its size is what that step asks.
+use borrow.Author.Needs.{needs}
+use mathlib.Core.Path.{_≡_, sym, _∙_}
+use native.Mathlib.Omega.{arith}
+use mir.Syntax.{w32, w64}
+use Rattle.integers.specs.Int.{bk, back-at, Within}
+use Rattle.measurement.specs.Measure.{distanceOf, scaledOf, usedPoints, valueOf, measuredOf}
+use Rattle.measurement.specs.Curve.{linearizedOf, pointsFrom}
+use Rattle.measurement.specs.Range.{distance-within, scaled-within}
+use Rattle.measurement.proofs.measure.Statement.{statement}
+use Rattle.measurement.proofs.measure.Tie as tie
+
+distance-requires : tie.Need-distance-requires
+distance-requires c κs = search needs
+
+-- d
+d-is : (c : tie.After-distance) → let s = c .before .before .args in bk w64 (c .distance .result) ≡ distanceOf (s .p) (s .s .offset) (s .s .round)
+d-is c =
+    let s = c .before .before .args .s in
+    let e : bk w32 (s .offset) ≡ s .offset = search needs in
+    back-at w64 (c .distance .result) (c .distance .ok) ∙ (rw e at (c .distance .ensures))
+
+scaled-requires : tie.Need-scaled-requires
+scaled-requires c κs =
+    let a = c .before .before .before in
+    let p = a .pre in
+    (rw (d-is (c .before)) (distance-within (a .args .p) (a .args .s .offset) (a .args .s .round) (omega arith) (p .offset) (p .round)), p .factor)
+
+-- v
+v-is : (c : tie.After-scaled) → let s = c .before .before .before .before .args in
+    bk w64 (c .scaled .result) ≡ scaledOf (distanceOf (s .p) (s .s .offset) (s .s .round)) (s .s .factor) (s .s .divider) (s .s .additive)
+v-is c =
+    let s = c .before .before .before .before .args .s in
+    let e : bk w32 (s .additive) ≡ s .additive = search needs in
+    back-at w64 (c .scaled .result) (c .scaled .ok) ∙ (rw (d-is (c .before .before), e) at (c .scaled .ensures))
+
+linearized-requires : tie.Need-linearized-requires
+linearized-requires c κs =
+    let a = c .before .before .before .before in
+    let p = a .pre in
+    (p .curve,
+    rw (v-is c)
+    (scaled-within _ (a .args .s .factor) (a .args .s .divider) (a .args .s .additive)
+    (distance-within (a .args .p) (a .args .s .offset) (a .args .s .round) (omega arith) (p .offset) (p .round)) (p .factor) (p .additive)))
+
+judged-requires : tie.Need-judged-requires
+judged-requires c κs = search needs
+
+returns : tie.Need-returns
+unfolding measuredOf valueOf usedPoints
+returns c =
+    let l = c .before .linearized in
+    rw (c .judged .ensures, back-at w64 (l .result) (l .ok), l .ensures, v-is (c .before .before))
+
+pub measure-spec : {M : Type 1} → statement M
+measure-spec = tie.close (tie.spec distance-requires scaled-requires linearized-requires judged-requires returns)
