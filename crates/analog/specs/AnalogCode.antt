@@ -7,7 +7,7 @@ use lib.Signed.{ltZ, _≤ℤ_}
 use Rattle.integers.specs.Round.{roundDiv}
 
 -- Analog value, f = (r − start) ÷ (end − start): where the end is below the start both signs are turned, so that the lower number is
--- above zero. It is 0 where start equals end, which a load refuses; `roundDiv` then gives 0.
+-- above zero. It is 0 where start equals end, which a load refuses; the code is then 0, as `roundDiv` has it for that divisor.
 abbrev pub upperOf : ℤ → ℤ → ℤ → ℤ
 upperOf start end r = cond (ltZ end start) (start -ℤ r) (r -ℤ start)
 
@@ -27,7 +27,7 @@ abbrev pub lowest : ℕ → ℤ
 lowest zero = negℤ (pos (fullScale zero))
 lowest (suc k) = pos 0
 
--- Analog value, "held to lo..hi"
+-- Analog value, "held to": z, or the end that it lies beyond
 unfoldable pub held : ℤ → ℤ → ℤ → ℤ
 held lo hi z = cond (ltZ z lo) lo (cond (ltZ hi z) hi z)
 

@@ -4,7 +4,7 @@ use mathlib.Core.Path.{_≡_, refl}
 use lib.IntN.{pos, negsuc}
 use lib.Ieee.{binary32, ofInt, mul, div, add}
 use Rattle.integers.specs.Round.{roundDiv}
-use Rattle.analog.specs.declared.Drive.the-variants.{Volts, Milliamps}
+use Rattle.analog.specs.declared.Drive.the-variants.{Off, Volts, Milliamps}
 use Rattle.analog.specs.AnalogCode.{codeOf, held}
 use Rattle.analog.specs.Drives.{driveFor, driveOf, floatOf, driveValue}
 
@@ -50,3 +50,28 @@ worked-third = refl
 pub worked-fourth : codeOf 0 (pos 0) (pos 10000) (negsuc 1) ≡ negsuc 6
 unfolding codeOf held roundDiv
 worked-fourth = refl
+
+-- Analog value: held at both ends, and an end below the start
+pub held-above : codeOf 0 (pos 0) (pos 10000) (pos 10001) ≡ pos 32767
+unfolding codeOf held roundDiv
+held-above = refl
+
+pub held-below : codeOf 0 (pos 0) (pos 10000) (negsuc 10000) ≡ negsuc 32766
+unfolding codeOf held roundDiv
+held-below = refl
+
+pub held-at-zero : codeOf 2 (pos 0) (pos 10000) (negsuc 0) ≡ pos 0
+unfolding codeOf held roundDiv
+held-at-zero = refl
+
+pub turned : codeOf 1 (pos 10000) (pos 0) (pos 2500) ≡ pos 49151
+unfolding codeOf held roundDiv
+turned = refl
+
+-- Analog value, "off means 0 V or 0 mA, also in format 2"; the lowest drive of format 2 is 4 mA
+pub off-is-zero : driveValue Off ≡ (pos 0, 1)
+off-is-zero = refl
+
+pub format-two-lowest : driveValue (driveOf 2 (pos 0)) ≡ (pos 4, 1)
+unfolding driveOf floatOf ofInt mul div add
+format-two-lowest = refl

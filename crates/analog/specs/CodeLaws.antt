@@ -1,15 +1,24 @@
--- The laws of the analog code: it is within its ends, for every format, start, end and result. Assumes nothing.
+-- The laws of the analog code, for every format, start, end and result: f is what the paper says (`fraction-is`), the code is within
+-- its ends (`code-fits`), before it is held it is the whole number nearest to full scale × f (`rounded-near`), and it is 0 at the start and
+-- the full scale at the end (`code-at-start`, `code-at-end`). Paper 01, "Analog value". Assumes nothing.
 use native.Mathlib.Omega.{arith}
-use Prim.Native.Nat.{ℕ, zero, suc, _+_}
+use Prim.Native.Nat.{ℕ, zero, suc, _+_, _^_, _≤_, _<_}
 use lib.Dec.{lit≤}
-use lib.IntN.{ℤ, pos, natAbs, _-ℤ_}
+use lib.IntN.{ℤ, pos, natAbs, _-ℤ_, _*ℤ_, *ℤ-comm, *ℤ-zero, zero-*ℤ, +ℤ-invr}
 use lib.Signed.{ltZ, _≤ℤ_}
 use mathlib.Core.Bool.{true, false, cond}
-use mathlib.Core.Path.{_≡_, refl}
+use mathlib.Core.Path.{_≡_, refl, sym, ap, _∙_}
 use Rattle.integers.specs.Int.{ints, Within, within, sub-within, eq-of, excl, sub-is, abs-is, ltZ-true, ltZ-false}
-use Rattle.integers.specs.Ring.{var, nlt-ex, le}
-use Rattle.integers.specs.Choice.{by-test}
-use Rattle.analog.specs.AnalogCode.{fullScale, lowest, held, codeOf, CodeFits, upperOf, lowerOf, roundedOf, fraction}
+use Rattle.integers.specs.Ring.{var, _⊖_, _⊗_, ring, lt-ex, nlt-ex, le}
+use Rattle.integers.specs.Choice.{by-test, is-true, is-false}
+use Rattle.integers.specs.Round.{roundDiv}
+use Rattle.integers.specs.RoundLaws.{off, round-near, round-exact, not-above}
+use Rattle.analog.specs.AnalogCode.{upperOf, lowerOf, fraction, fullScale, lowest, held, roundedOf, codeOf, CodeFits}
+
+-- ---- the rounding: 2 |lower × z − full scale × upper| ≤ lower
+
+pub rounded-near : (format : ℕ) (f : ℤ × ℕ) → 0 < f .1 → off (pos (fullScale format) *ℤ f .0) (pos (f .1)) (roundedOf format f) ≤ f .1
+rounded-near format f h = round-near (pos (fullScale format) *ℤ f .0) (pos (f .1)) (omega (arith, ints))
 
 -- ---- the fraction
 
@@ -24,6 +33,31 @@ lower-kept start end t =
     eq-of (end -ℤ start) (pos (natAbs (end -ℤ start)))
     (omega (arith, ltZ-false end start t, sub-is end start, excl (end -ℤ start), abs-is (end -ℤ start)))
 
+-- f is (r − start) ÷ (end − start), by cross-multiplying, and its lower number is above zero
+pub fraction-is : (start end r : ℤ) → fraction start end r .0 *ℤ (end -ℤ start) ≡ (r -ℤ start) *ℤ pos (fraction start end r .1)
+fraction-is start end r =
+    by-test (ltZ end start) (start -ℤ r) (r -ℤ start) (λ (x : ℤ). x *ℤ (end -ℤ start) ≡ (r -ℤ start) *ℤ pos (lowerOf start end))
+    (λ t. ring ((var start ⊖ var r) ⊗ (var end ⊖ var start)) ((var r ⊖ var start) ⊗ (var start ⊖ var end)) (omega arith)
+    ∙ ap (λ (x : ℤ). (r -ℤ start) *ℤ x) (lower-turned start end (is-true (ltZ end start) t)))
+    (λ t. ap (λ (x : ℤ). (r -ℤ start) *ℤ x) (lower-kept start end (is-false (ltZ end start) t)))
+
+pub lower-above : (start end : ℤ) → (start ≡ end → ⊥) → 0 < lowerOf start end
+lower-above start end h = go (lowerOf start end) refl
+  where
+    go : (d : ℕ) → lowerOf start end ≡ d → 0 < lowerOf start end
+    go zero e = absurd (h (eq-of start end (omega (arith, abs-is (end -ℤ start), sub-is end start))))
+    go (suc d) e = omega arith
+
+-- f is 0 at the start and 1 at the end
+upper-at-start : (start end : ℤ) → upperOf start end start ≡ pos 0
+upper-at-start start end =
+    by-test (ltZ end start) (start -ℤ start) (start -ℤ start) (λ (x : ℤ). x ≡ pos 0) (λ t. +ℤ-invr start) (λ t. +ℤ-invr start)
+
+upper-at-end : (start end : ℤ) → upperOf start end end ≡ pos (lowerOf start end)
+upper-at-end start end =
+    by-test (ltZ end start) (start -ℤ end) (end -ℤ start) (λ (x : ℤ). x ≡ pos (lowerOf start end))
+    (λ t. lower-turned start end (is-true (ltZ end start) t)) (λ t. lower-kept start end (is-false (ltZ end start) t))
+
 -- the upper number of numbers within A is within 2 A
 pub upper-within : {A : ℕ} {start r : ℤ} (end : ℤ) → Within A start → Within A r → Within (A + A) (upperOf start end r)
 upper-within {A} {start} {r} end h k =
@@ -31,21 +65,30 @@ upper-within {A} {start} {r} end h k =
 
 -- ---- the ends
 
-pub above-zero-scale : (format : ℕ) → (format ≡ 0 → ⊥) → fullScale format ≡ 65535
+-- all formats but 0 have one scale
+pub above-zero-scale : (format : ℕ) → (format ≡ 0 → ⊥) → fullScale format ≡ fullScale 1
 above-zero-scale zero h = absurd (h refl)
 above-zero-scale (suc k) h = refl
 
-pub above-zero-lowest : (format : ℕ) → (format ≡ 0 → ⊥) → lowest format ≡ pos 0
+pub above-zero-lowest : (format : ℕ) → (format ≡ 0 → ⊥) → lowest format ≡ lowest 1
 above-zero-lowest zero h = absurd (h refl)
 above-zero-lowest (suc k) h = refl
 
-pub scale-small : (format : ℕ) → Within 65535 (pos (fullScale format))
+pub ends-order : (format : ℕ) → lowest format ≤ℤ pos (fullScale format)
+ends-order zero = omega (arith, ints)
+ends-order (suc k) = omega (arith, ints)
+
+-- a code is at most 2 ^ 24 in size, and so fits 32 bits and the 24 digits of a 32-bit float
+pub scale-small : (format : ℕ) → Within (2 ^ 24) (pos (fullScale format))
 scale-small zero = record { above = lit≤ tt; below = lit≤ tt }
 scale-small (suc k) = record { above = lit≤ tt; below = lit≤ tt }
 
--- ---- the code
+pub fits-small : (format : ℕ) (code : ℤ) → CodeFits format code → Within (2 ^ 24) code
+fits-small zero code h = within (2 ^ 24) code (omega (arith, ints)) (omega (arith, ints))
+fits-small (suc k) code h = within (2 ^ 24) code (omega (arith, ints)) (omega (arith, ints))
 
--- what is held to lo..hi lies there
+-- ---- the hold
+
 pub held-low : (lo hi z : ℤ) → lo ≤ℤ hi → lo ≤ℤ held lo hi z
 unfolding held
 held-low lo hi z h =
@@ -58,12 +101,15 @@ held-high lo hi z h =
     by-test (ltZ z lo) lo (cond (ltZ hi z) hi z) (λ (x : ℤ). x ≤ℤ hi) (λ t. h)
     (λ t. by-test (ltZ hi z) hi z (λ (x : ℤ). x ≤ℤ hi) (λ u. omega (arith, ints)) (λ u. le (var z) (var hi) (nlt-ex (var hi) (var z) u)))
 
--- the ends are in order
-pub ends-order : (format : ℕ) → lowest format ≤ℤ pos (fullScale format)
-ends-order zero = omega (arith, ints)
-ends-order (suc k) = omega (arith, ints)
+pub held-kept : (lo hi z : ℤ) → lo ≤ℤ z → z ≤ℤ hi → held lo hi z ≡ z
+unfolding held
+held-kept lo hi z h k =
+    by-test (ltZ z lo) lo (cond (ltZ hi z) hi z) (λ (x : ℤ). x ≡ z) (λ t. let u = lt-ex (var z) (var lo) t in absurd (omega (arith, ints)))
+    (λ t. by-test (ltZ hi z) hi z (λ (x : ℤ). x ≡ z) (λ u. let v = lt-ex (var hi) (var z) u in absurd (omega (arith, ints))) (λ u. refl))
 
--- the code is within the ends of its format
+-- ---- the code
+
+-- "held to ±32,767", "held to 0..65,535"
 pub code-fits : (format : ℕ) (start end r : ℤ) → CodeFits format (codeOf format start end r)
 unfolding codeOf
 code-fits format start end r =
@@ -73,7 +119,34 @@ code-fits format start end r =
       high = held-high (lowest format) (pos (fullScale format)) z (ends-order format);
     }
 
--- and so it is at most 65,535 in size
-pub fits-small : (format : ℕ) (code : ℤ) → CodeFits format code → Within 65535 code
-fits-small zero code h = within 65535 code (omega (arith, ints)) (omega (arith, ints))
-fits-small (suc k) code h = within 65535 code (omega (arith, ints)) (omega (arith, ints))
+-- a whole multiple of the lower number is not rounded; where that is 0 the number is 0
+round-multiple : (n d : ℕ) → (d ≡ 0 → n ≡ 0) → roundDiv (pos n *ℤ pos d) (pos d) ≡ pos n
+round-multiple n zero h = rw (h refl) (sym (not-above (pos 0) (pos 0) (lit≤ tt)))
+round-multiple n (suc d) h = rw (*ℤ-comm (pos n) (pos (suc d))) (sym (round-exact (pos (suc d)) (pos n) (omega (arith, ints))))
+
+code-at : (format n : ℕ) (start end r : ℤ) → CodeFits format (pos n) → roundedOf format (fraction start end r) ≡ pos n → codeOf format start end r ≡ pos n
+unfolding codeOf
+code-at format n start end r h e = rw e (held-kept (lowest format) (pos (fullScale format)) (pos n) (h .low) (h .high))
+
+zero-fits : (format : ℕ) → CodeFits format (pos 0)
+zero-fits zero = record { low = omega (arith, ints); high = omega (arith, ints) }
+zero-fits (suc k) = record { low = omega (arith, ints); high = omega (arith, ints) }
+
+-- the start gives 0, also where it is above the end
+pub code-at-start : (format : ℕ) (start end : ℤ) → codeOf format start end start ≡ pos 0
+code-at-start format start end =
+    let full = pos (fullScale format) in
+    let d = lowerOf start end in
+    code-at format 0 start end start (zero-fits format)
+    (ap (λ (x : ℤ). roundDiv (full *ℤ x) (pos d)) (upper-at-start start end)
+    ∙ ap (λ (x : ℤ). roundDiv x (pos d)) (*ℤ-zero full ∙ sym (zero-*ℤ (pos d)))
+    ∙ round-multiple 0 d (λ e. refl))
+
+-- the end gives the full scale, also where it is below the start
+pub code-at-end : (format : ℕ) (start end : ℤ) → (start ≡ end → ⊥) → codeOf format start end end ≡ pos (fullScale format)
+code-at-end format start end h =
+    let full = fullScale format in
+    let d = lowerOf start end in
+    code-at format full start end end (record { low = ends-order format; high = omega (arith, ints) })
+    (ap (λ (x : ℤ). roundDiv (pos full *ℤ x) (pos d)) (upper-at-end start end)
+    ∙ round-multiple full d (λ e. absurd (omega (arith, lower-above start end h))))

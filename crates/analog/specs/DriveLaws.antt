@@ -1,5 +1,6 @@
--- The laws of the drive: no float step rounds, a drive is worth the paper's value, and drives of one format are ordered and told apart as
--- their codes are. Paper 01, "Analog value". Each law holds for every format and every code within its ends. Assumes nothing.
+-- The laws of the drive, for every format and every code within its ends: no float step rounds (`unrounded`), a drive is worth the paper's
+-- fraction (`drive-worth`), and drives of one format are ordered and told apart as their codes are (`drive-order`, `equal-codes`,
+-- `equal-worth`, `equal-drives`). Paper 01, "Analog value". Assumes nothing.
 use mathlib.Core.Path.{_≡_, refl, sym, ap, _∙_, subst}
 use Prim.Native.Nat.{ℕ, zero, suc, _+_, _*_, _^_, _≤_, _<_}
 use native.Mathlib.Omega.{arith}
@@ -12,8 +13,9 @@ use lib.Ieee.Exact.{HasValue}
 use Rattle.integers.specs.Int.{ints, abs-is, excl}
 use Rattle.analog.specs.declared.Drive.{Drive}
 use Rattle.analog.specs.Fraction.{Is, Same, valueOf}
-use Rattle.analog.specs.AnalogCode.{CodeFits}
-use Rattle.analog.specs.Drives.{factor, divisor, offset, analogValue, whole, quotientOf, floatOf, Unrounded, driveOf, driveValue}
+use Rattle.analog.specs.AnalogCode.{codeOf, CodeFits}
+use Rattle.analog.specs.CodeLaws.{code-fits}
+use Rattle.analog.specs.Drives.{factor, divisor, offset, analogValue, whole, quotientOf, floatOf, Unrounded, driveOf, driveValue, driveFor}
 use Rattle.analog.specs.ExactSteps.{int-exact, cast-is, product-is, quotient-is, sum-is}
 use Rattle.analog.specs.FloatOrder.{is-same, lt-is, scaled-order, scaled-equal, same-trans, same-sym, same-refl}
 
@@ -73,6 +75,10 @@ drive-float (suc k) code = refl
 pub drive-worth : (format : ℕ) (code : ℤ) → CodeFits format code → Same (driveValue (driveOf format code)) (analogValue format code)
 drive-worth format code h =
     rw drive-float (is-same (floatOf format code) (analogValue format code .0) (divisor format) (divisor-above format) (unrounded format code h .result))
+
+-- and so, for every result, is the drive of the result's code
+pub drive-for-worth : (format : ℕ) (start end r : ℤ) → Same (driveValue (driveFor format start end r)) (analogValue format (codeOf format start end r))
+drive-for-worth format start end r = drive-worth format (codeOf format start end r) (code-fits format start end r)
 
 -- ---- a format above 2 counts as 2
 

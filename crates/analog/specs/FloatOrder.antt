@@ -102,10 +102,12 @@ scaled-order k o a b K =
 pub same-trans : (p q r : ℤ × ℕ) → Same p q → Same q r → Same p r
 same-trans p q r h k =
     let x = ring-to (var (p .0) ⊗ lit (q .1)) (var (q .0) ⊗ lit (p .1)) (h .2) in
-    let y = ring-to (var (q .0) ⊗ lit (r .1)) (var (r .0) ⊗ lit (q .1)) (k .2) in
-    (h .0, k .1,
-    ring (var (p .0) ⊗ lit (r .1)) (var (r .0) ⊗ lit (p .1))
-    (eq-of-mul-eq-mul-right (q .1) (h .1) _ _ (omega (arith, ap (λ (m : ℕ). m * r .1) x, ap (λ (m : ℕ). m * p .1) y))))
+    let y = ring-to (var (q .0) ⊗ lit (r .1)) (var (r .0) ⊗ lit (q .1)) (k .2) in (
+      h .0,
+      k .1,
+      ring (var (p .0) ⊗ lit (r .1)) (var (r .0) ⊗ lit (p .1))
+          (eq-of-mul-eq-mul-right (q .1) (h .1) _ _ (omega (arith, ap (λ (m : ℕ). m * r .1) x, ap (λ (m : ℕ). m * p .1) y))),
+    )
 
 pub same-sym : (p q : ℤ × ℕ) → Same p q → Same q p
 same-sym p q h = (h .1, h .0, sym (h .2))

@@ -80,7 +80,11 @@ fn rounded(format: u32, start: i32, end: i32, r: i32) -> i64
 pub fn code(format: u32, start: i32, end: i32, r: i32) -> i32
     ensures { λ z. ⌜ z ≡ codeOf format start end r ⌝ }
 {
-    hold(lowest_code(format), full_scale(format), rounded(format, start, end, r)) as i32
+    hold(
+        lowest_code(format),
+        full_scale(format),
+        rounded(format, start, end, r),
+    ) as i32
 }
 
 // code * 10 / 32768 volts.

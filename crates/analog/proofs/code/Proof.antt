@@ -30,8 +30,19 @@ held-is c =
     let h = c .before .before .full-scale in
     let l = c .before .before .before .lowest-code in
     let f = c .before .before .before .before .fits in
-    rw (back-at w64 (c .hold .result) (c .hold .ok), c .hold .ensures, back-at w64 (l .result) (l .ok), back-at w64 (h .result) (h .ok), back-at w64 (z .result) (z .ok),
-        l .ensures, h .ensures, z .ensures, toZ-ofZ (f .start), toZ-ofZ (f .end), toZ-ofZ (f .r))
+    rw (
+      back-at w64 (c .hold .result) (c .hold .ok),
+      c .hold .ensures,
+      back-at w64 (l .result) (l .ok),
+      back-at w64 (h .result) (h .ok),
+      back-at w64 (z .result) (z .ok),
+      l .ensures,
+      h .ensures,
+      z .ensures,
+      toZ-ofZ (f .start),
+      toZ-ofZ (f .end),
+      toZ-ofZ (f .r),
+    )
 
 cast-result : tie.Need-cast-result
 cast-result c = rw (held-is c) (fits-within (fits-small _ _ (code-fits _ _ _ _)) (lit< tt))
