@@ -2,7 +2,7 @@
 -- fraction (`drive-worth`), and drives of one format are ordered and told apart as their codes are (`drive-order`, `equal-codes`,
 -- `equal-worth`, `equal-drives`). Paper 01, "Analog value". Assumes nothing.
 use mathlib.Core.Path.{_≡_, refl, sym, ap, _∙_, subst}
-use Prim.Native.Nat.{ℕ, zero, suc, _+_, _*_, _^_, _≤_, _<_}
+use Prim.Native.Nat.{ℕ, zero, suc, _*_, _^_, _≤_, _<_}
 use native.Mathlib.Omega.{arith}
 use mathlib.Core.Bool.{false}
 use lib.Dec.{lit<, lit≤}

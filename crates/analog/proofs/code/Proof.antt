@@ -23,7 +23,7 @@ hold-requires : tie.Need-hold-requires
 hold-requires c κs = search needs
 
 -- what the last call gave, as the cast reads it
-held-is : (c : tie.After-hold) → bk w64 (c .hold .result) ≡ codeOf (c .before .before .before .before .args .format) (c .before .before .before .before .args .start) (c .before .before .before .before .args .end) (c .before .before .before .before .args .r)
+held-is : (c : tie.After-hold) → let a = c .before .before .before .before .args in bk w64 (c .hold .result) ≡ codeOf (a .format) (a .start) (a .end) (a .r)
 unfolding codeOf
 held-is c =
     let z = c .before .rounded in
