@@ -51,9 +51,14 @@ gap-minus u w = omega (arith, abs-ex (gapE u w), abs-ex (neg (var (u .num)) ⊗ 
 -- the way by m is no shorter
 pub triangle : (u m w : Frac) → gap u w * m .den ≤ gap u m * w .den + gap m w * u .den
 triangle u m w =
-    omega (arith, abs-times (val (gapE u w)) (pos (m .den)), abs-times (val (gapE u m)) (pos (w .den)), abs-times (val (gapE m w)) (pos (u .den)),
-        abs-plus (val (gapE u m) *ℤ pos (w .den)) (val (gapE m w) *ℤ pos (u .den)),
-        ap natAbs (ring (gapE u w ⊗ lit (m .den)) (gapE u m ⊗ lit (w .den) ⊕ gapE m w ⊗ lit (u .den)) (omega arith)))
+    omega (
+      arith,
+      abs-times (val (gapE u w)) (pos (m .den)),
+      abs-times (val (gapE u m)) (pos (w .den)),
+      abs-times (val (gapE m w)) (pos (u .den)),
+      abs-plus (val (gapE u m) *ℤ pos (w .den)) (val (gapE m w) *ℤ pos (u .den)),
+      ap natAbs (ring (gapE u w ⊗ lit (m .den)) (gapE u m ⊗ lit (w .den) ⊕ gapE m w ⊗ lit (u .den)) (omega arith)),
+    )
 
 -- and no longer, where m lies between
 pub between : (u w : Frac) (x : ℤ) → T (upTo u x) → T (from x w) → gap u (whole x) * w .den + gap w (whole x) * u .den ≡ gap u w
@@ -85,7 +90,7 @@ pub lip-via : (S : Ratio) (q r u w : Frac) (x y : ℤ) → T (upTo q x) → T (f
     Lip S q (whole x) u (whole y) → Lip S r (whole x) w (whole y) → Lip S q r u w
 lip-via S q r u w x y s t h g =
     via-numbers (S .low) (S .top) (q .den) (r .den) (u .den) (w .den) (gap u w) (gap u (whole y)) (gap w (whole y)) (gap q r) (gap q (whole x)) (gap r (whole x))
-        (rw (gap-sym (whole y) w) at (triangle u (whole y) w)) (between q r x s t) h g
+    (rw (gap-sym (whole y) w) at (triangle u (whole y) w)) (between q r x s t) h g
 
 -- ---- one segment
 
@@ -97,6 +102,7 @@ cross-id y A B D b c d = ap natAbs (drop-y (d * b) (d * c)) ∙ abs-times D (A *
   where
     drop-y : (m n : ℕ) → (y *ℤ pos m +ℤ A *ℤ D) *ℤ pos n -ℤ (y *ℤ pos n +ℤ B *ℤ D) *ℤ pos m ≡ D *ℤ (A *ℤ pos n -ℤ B *ℤ pos m)
     drop-y m n = ring ((var y ⊗ lit m ⊕ var A ⊗ var D) ⊗ lit n ⊖ (var y ⊗ lit n ⊕ var B ⊗ var D) ⊗ lit m) (var D ⊗ (var A ⊗ lit n ⊖ var B ⊗ lit m)) (omega arith)
+
     regroup : (D d g : ℕ) {h : ℕ} → h ≡ d * g → D * h ≡ d * D * g
     regroup D d g e = rw e (omega arith)
 
@@ -111,7 +117,7 @@ module _ (a x y D : ℤ) (b d : ℕ) where
 
   both-id : (e : ℤ) (c : ℕ) →
       natAbs ((y *ℤ pos (d * b) +ℤ (a -ℤ x *ℤ pos b) *ℤ D) *ℤ pos (d * c) -ℤ (y *ℤ pos (d * c) +ℤ (e -ℤ x *ℤ pos c) *ℤ D) *ℤ pos (d * b))
-        ≡ d * natAbs D * natAbs (a *ℤ pos c -ℤ e *ℤ pos b)
+      ≡ d * natAbs D * natAbs (a *ℤ pos c -ℤ e *ℤ pos b)
   both-id e c = cross-id y (a -ℤ x *ℤ pos b) (e -ℤ x *ℤ pos c) D b c d
       ∙ ap (λ (z : ℤ). d * natAbs D * natAbs z) (ring ((var a ⊖ var x ⊗ lit b) ⊗ lit c ⊖ (var e ⊖ var x ⊗ lit c) ⊗ lit b) (var a ⊗ lit c ⊖ var e ⊗ lit b) (omega arith))
 
@@ -133,10 +139,11 @@ module _ (S : Ratio) (p p₁ : Point) (up-hill : T (ltZ (p .x) (p₁ .x))) (u : 
   right-gap : (q : Frac) → gap (line p p₁ q) (whole (p₁ .y)) ≡ gap q (whole (p₁ .x)) * natAbs (p₁ .y -ℤ p .y)
   right-gap q = subst (λ (z : ℤ). gap (line p p₁ q) (whole z) ≡ gap q (whole (p₁ .x)) * natAbs (p₁ .y -ℤ p .y)) ey
       (subst (λ (z : ℤ). gap (line p p₁ q) (whole (p .y +ℤ (p₁ .y -ℤ p .y))) ≡ gap q (whole z) * natAbs (p₁ .y -ℤ p .y)) ex
-          (right-id (q .num) (p .x) (p .y) (p₁ .y -ℤ p .y) (q .den) (natAbs (p₁ .x -ℤ p .x))))
+      (right-id (q .num) (p .x) (p .y) (p₁ .y -ℤ p .y) (q .den) (natAbs (p₁ .x -ℤ p .x))))
     where
       ey : p .y +ℤ (p₁ .y -ℤ p .y) ≡ p₁ .y
       ey = ring (var (p .y) ⊕ (var (p₁ .y) ⊖ var (p .y))) (var (p₁ .y)) (omega arith)
+
       ex : p .x +ℤ pos (natAbs (p₁ .x -ℤ p .x)) ≡ p₁ .x
       ex = ring (var (p .x) ⊕ lit (natAbs (p₁ .x -ℤ p .x))) (var (p₁ .x)) (omega (arith, lt-ex (var (p .x)) (var (p₁ .x)) up-hill, abs-ex (var (p₁ .x) ⊖ var (p .x))))
 
@@ -152,6 +159,7 @@ module _ (S : Ratio) (p p₁ : Point) (up-hill : T (ltZ (p .x) (p₁ .x))) (u : 
     where
       eq : (z w : ℤ) → gap (whole z) (whole w) ≡ natAbs (w -ℤ z)
       eq z w = omega (arith, abs-ex (gapE (whole z) (whole w)), abs-ex (var w ⊖ var z))
+
       ends-numbers : (run rise g D h d : ℕ) → D * run ≤ rise * d → g ≡ D → h ≡ d → run * (1 * 1) * g ≤ rise * h * (1 * 1)
       ends-numbers run rise g D h d u e f = rw (e, f) (omega arith)
 
@@ -170,21 +178,21 @@ module _ (S : Ratio) where
   from-first p (p₁ ∷ ps) r u q t = by-test (before q (p₁ .x)) (line p p₁ q) (rightOf p₁ ps q) (λ w. Lip S q (whole (p .x)) w (whole (p .y)))
       (λ c. seg-left S p p₁ (r .0) (u .0) q)
       (λ c. let after : T (from (p₁ .x) q) = not-before q (p₁ .x) c in
-          let step : T (upTo (whole (p .x)) (p₁ .x)) = le-by (var (p .x)) (var (p₁ .x) ⊗ lit 1) (omega (arith, lt-ex (var (p .x)) (var (p₁ .x)) (r .0))) in
-          lip-sym S (whole (p .x)) q (whole (p .y)) (rightOf p₁ ps q)
-              (lip-via S (whole (p .x)) q (whole (p .y)) (rightOf p₁ ps q) (p₁ .x) (p₁ .y) step after (seg-ends S p p₁ (r .0) (u .0)) (from-first p₁ ps (r .1) (u .1) q after)))
+      let step : T (upTo (whole (p .x)) (p₁ .x)) = le-by (var (p .x)) (var (p₁ .x) ⊗ lit 1) (omega (arith, lt-ex (var (p .x)) (var (p₁ .x)) (r .0))) in
+      lip-sym S (whole (p .x)) q (whole (p .y)) (rightOf p₁ ps q)
+      (lip-via S (whole (p .x)) q (whole (p .y)) (rightOf p₁ ps q) (p₁ .x) (p₁ .y) step after (seg-ends S p p₁ (r .0) (u .0)) (from-first p₁ ps (r .1) (u .1) q after)))
 
   lip-right : (p : Point) (ps : List Point) → rising p ps → unders S p ps → (q r : Frac) → Lip S q r (rightOf p ps q) (rightOf p ps r)
   unfolding rightOf rising unders
   lip-right p [] up u q r = lip-self S q r (whole (p .y))
   lip-right p (p₁ ∷ ps) up u q r =
       by-test (before q (p₁ .x)) (line p p₁ q) (rightOf p₁ ps q) (λ w. Lip S q r w (rightOf p (p₁ ∷ ps) r))
-          (λ c. by-test (before r (p₁ .x)) (line p p₁ r) (rightOf p₁ ps r) (λ w. Lip S q r (line p p₁ q) w)
-              (λ d. seg-both S p p₁ (up .0) (u .0) q r)
-              (λ d. across q r c d))
-          (λ c. by-test (before r (p₁ .x)) (line p p₁ r) (rightOf p₁ ps r) (λ w. Lip S q r (rightOf p₁ ps q) w)
-              (λ d. lip-sym S r q (line p p₁ r) (rightOf p₁ ps q) (across r q d c))
-              (λ d. lip-right p₁ ps (up .1) (u .1) q r))
+      (λ c. by-test (before r (p₁ .x)) (line p p₁ r) (rightOf p₁ ps r) (λ w. Lip S q r (line p p₁ q) w)
+      (λ d. seg-both S p p₁ (up .0) (u .0) q r)
+      (λ d. across q r c d))
+      (λ c. by-test (before r (p₁ .x)) (line p p₁ r) (rightOf p₁ ps r) (λ w. Lip S q r (rightOf p₁ ps q) w)
+      (λ d. lip-sym S r q (line p p₁ r) (rightOf p₁ ps q) (across r q d c))
+      (λ d. lip-right p₁ ps (up .1) (u .1) q r))
     where
       across : (q r : Frac) → T (before q (p₁ .x)) → T (not (before r (p₁ .x))) → Lip S q r (line p p₁ q) (rightOf p₁ ps r)
       across q r c d = let after : T (from (p₁ .x) r) = not-before r (p₁ .x) d in
@@ -194,19 +202,19 @@ module _ (S : Ratio) where
   unfolding fourQuadrants
   four-first p ps up u q =
       by-test (before q (p .x)) (whole (p .y)) (rightOf p ps q) (λ w. Lip S q (whole (p .x)) w (whole (p .y)))
-          (λ c. lip-self S q (whole (p .x)) (whole (p .y)))
-          (λ c. from-first p ps up u q (not-before q (p .x) c))
+      (λ c. lip-self S q (whole (p .x)) (whole (p .y)))
+      (λ c. from-first p ps up u q (not-before q (p .x) c))
 
   pub lip-four : (p : Point) (ps : List Point) → rising p ps → unders S p ps → (q r : Frac) → Lip S q r (fourQuadrants (p ∷ ps) q) (fourQuadrants (p ∷ ps) r)
   unfolding fourQuadrants
   lip-four p ps up u q r =
       by-test (before q (p .x)) (whole (p .y)) (rightOf p ps q) (λ w. Lip S q r w (fourQuadrants (p ∷ ps) r))
-          (λ c. by-test (before r (p .x)) (whole (p .y)) (rightOf p ps r) (λ w. Lip S q r (whole (p .y)) w)
-              (λ d. lip-self S q r (whole (p .y)))
-              (λ d. across q r c d))
-          (λ c. by-test (before r (p .x)) (whole (p .y)) (rightOf p ps r) (λ w. Lip S q r (rightOf p ps q) w)
-              (λ d. lip-sym S r q (whole (p .y)) (rightOf p ps q) (across r q d c))
-              (λ d. lip-right p ps up u q r))
+      (λ c. by-test (before r (p .x)) (whole (p .y)) (rightOf p ps r) (λ w. Lip S q r (whole (p .y)) w)
+      (λ d. lip-self S q r (whole (p .y)))
+      (λ d. across q r c d))
+      (λ c. by-test (before r (p .x)) (whole (p .y)) (rightOf p ps r) (λ w. Lip S q r (rightOf p ps q) w)
+      (λ d. lip-sym S r q (whole (p .y)) (rightOf p ps q) (across r q d c))
+      (λ d. lip-right p ps up u q r))
     where
       across : (q r : Frac) → T (before q (p .x)) → T (not (before r (p .x))) → Lip S q r (whole (p .y)) (rightOf p ps r)
       across q r c d = let after : T (from (p .x) r) = not-before r (p .x) d in
@@ -221,15 +229,16 @@ pub lip-one : (S : Ratio) (ps : List Point) → rising origin ps → unders S or
 unfolding oneQuadrant
 lip-one S ps up u q r =
     by-test (nonNeg (q .num)) (at q) (minus (at (minus q))) (λ w. Lip S q r w (oneQuadrant (origin ∷ ps) r))
-        (λ c. by-test (nonNeg (r .num)) (at r) (minus (at (minus r))) (λ w. Lip S q r (at q) w)
-            (λ d. lip-four S origin ps up u q r)
-            (λ d. lip-sym S r q (minus (at (minus r))) (at q) (across r q d c)))
-        (λ c. by-test (nonNeg (r .num)) (at r) (minus (at (minus r))) (λ w. Lip S q r (minus (at (minus q))) w)
-            (λ d. across q r c d)
-            (λ d. lip-minus S q r (at (minus q)) (at (minus r)) (lip-four S origin ps up u (minus q) (minus r))))
+    (λ c. by-test (nonNeg (r .num)) (at r) (minus (at (minus r))) (λ w. Lip S q r (at q) w)
+    (λ d. lip-four S origin ps up u q r)
+    (λ d. lip-sym S r q (minus (at (minus r))) (at q) (across r q d c)))
+    (λ c. by-test (nonNeg (r .num)) (at r) (minus (at (minus r))) (λ w. Lip S q r (minus (at (minus q))) w)
+    (λ d. across q r c d)
+    (λ d. lip-minus S q r (at (minus q)) (at (minus r)) (lip-four S origin ps up u (minus q) (minus r))))
   where
     at : Frac → Frac
     at q = fourQuadrants (origin ∷ ps) q
+
     across : (q r : Frac) → T (not (nonNeg (q .num))) → T (nonNeg (r .num)) → Lip S q r (minus (at (minus q))) (at r)
     across q r c d = lip-via S q r (minus (at (minus q))) (at r) (pos 0) (pos 0)
         (le-by (var (q .num)) (lit 0 ⊗ lit (q .den)) (omega (arith, negative-P (q .num) c)))
@@ -268,8 +277,10 @@ unders-mono S S′ h le p (p₁ ∷ ps) u = (slope-trans (slope p p₁) S S′ h
 pub steepest-over : (p : Point) (ps : List Point) → rising p ps → unders (steepestFrom p ps) p ps
 unfolding steepestFrom rising unders
 steepest-over p [] r = tt
-steepest-over p (p₁ ∷ ps) r = (larger-left (slope p p₁) (steepestFrom p₁ ps),
-    unders-mono (steepestFrom p₁ ps) (steepestFrom p (p₁ ∷ ps)) (steepest-low p₁ ps (r .1)) (larger-right (slope p p₁) (steepestFrom p₁ ps)) p₁ ps (steepest-over p₁ ps (r .1)))
+steepest-over p (p₁ ∷ ps) r = (
+  larger-left (slope p p₁) (steepestFrom p₁ ps),
+  unders-mono (steepestFrom p₁ ps) (steepestFrom p (p₁ ∷ ps)) (steepest-low p₁ ps (r .1)) (larger-right (slope p p₁) (steepestFrom p₁ ps)) p₁ ps (steepest-over p₁ ps (r .1)),
+)
 
 -- ---- lower numbers are above zero
 

@@ -46,7 +46,7 @@ distance-within p O R h o r =
     by-test (eqb R 0) (pos p -ℤ O) (floorMod (pos p -ℤ O) (pos R)) (Within 4394967294)
     (λ _. sub-within {A = 4294967295} {a = pos p} (record { above = omega arith; below = omega arith }) o)
     (λ c. let b = floor-range (pos p -ℤ O) (pos R) (omega (arith, ints, not-zero R c)) in
-        within 4394967294 (floorMod (pos p -ℤ O) (pos R)) (omega (arith, ints, b .0, b .1)) (omega (arith, ints, b .0, b .1)))
+    within 4394967294 (floorMod (pos p -ℤ O) (pos R)) (omega (arith, ints, b .0, b .1)) (omega (arith, ints, b .0, b .1)))
 
 -- v
 pub scaled-within : (d : ℤ) (f g : ℕ) (A : ℤ) → Within 4394967294 d → f ≤ 9999999 → Within 99999999 A → Within 50000000000000000 (scaledOf d f g A)

@@ -146,11 +146,11 @@ module _ (ws : List ℤ) (v : ℤ) where
   at-line i (suc m) t a b h u =
       either (leb t i)
       (λ y. let e : t ≡ i = omega (arith, leb→le t i y) in
-          let w : T (ltZ v (pointAt ws (suc i) .x)) = subst (λ (k : ℕ). T (ltZ v (pointAt ws (suc k) .x))) e u in
-          rw (is-before v (pointAt ws (suc i) .x) w, e))
+      let w : T (ltZ v (pointAt ws (suc i) .x)) = subst (λ (k : ℕ). T (ltZ v (pointAt ws (suc k) .x))) e u in
+      rw (is-before v (pointAt ws (suc i) .x) w, e))
       (λ y. let l : i < t = nleb→lt t i y in
-          rw (is-not-before v (pointAt ws (suc i) .x) (h (suc i) (omega arith) (omega arith)))
-          (at-line (suc i) m t (omega arith) (omega arith) (λ j p q. h j (omega arith) q) u))
+      rw (is-not-before v (pointAt ws (suc i) .x) (h (suc i) (omega arith) (omega arith)))
+      (at-line (suc i) m t (omega arith) (omega arith) (λ j p q. h j (omega arith) q) u))
 
 -- ---- what was found gives the curve's value: before the first point, past the last, and on a line
 

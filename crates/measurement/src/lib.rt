@@ -93,15 +93,27 @@ pub fn judged(reported: bool, v: i64) -> Measured
     ensures { λ r. ⌜ r ≡ judgedOf reported v ⌝ }
 {
     if reported {
-        return Measured { result: 0, error: Error::ErrorBit };
+        return Measured {
+            result: 0,
+            error: Error::ErrorBit,
+        };
     }
     if 99999999 < v {
-        return Measured { result: 0, error: Error::AboveRange };
+        return Measured {
+            result: 0,
+            error: Error::AboveRange,
+        };
     }
     if v < -99999999 {
-        return Measured { result: 0, error: Error::BelowRange };
+        return Measured {
+            result: 0,
+            error: Error::BelowRange,
+        };
     }
-    Measured { result: v as i32, error: Error::None }
+    Measured {
+        result: v as i32,
+        error: Error::None,
+    }
 }
 
 // The later of two findings: point i where its x is at most v, else the one found before.

@@ -90,11 +90,13 @@ on-line-requires c κs =
     let s = c .before .before .before .before .before in
     let i = s .args .i in
     let ws = s .args .points .now in
-    rw (back-at w32 (getD ws (2 * i) (pos 0)) (c .before .before .before .on-line-arg .given),
-        back-at w32 (getD ws (2 * i + 1) (pos 0)) (c .before .before .on-line-arg2 .given),
-        back-at w32 (getD ws (2 * i + 2) (pos 0)) (c .before .on-line-arg3 .given),
-        back-at w32 (getD ws (2 * i + 3) (pos 0)) (c .on-line-arg4 .given),
-        toZ-ofZ (s .fits .v))
+    rw (
+      back-at w32 (getD ws (2 * i) (pos 0)) (c .before .before .before .on-line-arg .given),
+      back-at w32 (getD ws (2 * i + 1) (pos 0)) (c .before .before .on-line-arg2 .given),
+      back-at w32 (getD ws (2 * i + 2) (pos 0)) (c .before .on-line-arg3 .given),
+      back-at w32 (getD ws (2 * i + 3) (pos 0)) (c .on-line-arg4 .given),
+      toZ-ofZ (s .fits .v),
+    )
     (on-words (s .pre .0) (s .args .v) i (s .pre .1) (more (c .before .before .before .before)))
 
 returns-2 : tie.Need-returns-2
@@ -103,11 +105,13 @@ returns-2 c =
     let s = b .before .before .before .before .before in
     let i = s .args .i in
     let ws = s .args .points .now in
-    let e = rw (back-at w32 (getD ws (2 * i) (pos 0)) (b .before .before .before .on-line-arg .given),
-        back-at w32 (getD ws (2 * i + 1) (pos 0)) (b .before .before .on-line-arg2 .given),
-        back-at w32 (getD ws (2 * i + 2) (pos 0)) (b .before .on-line-arg3 .given),
-        back-at w32 (getD ws (2 * i + 3) (pos 0)) (b .on-line-arg4 .given),
-        toZ-ofZ (s .fits .v)) at (c .on-line .ensures) in
+    let e = rw (
+      back-at w32 (getD ws (2 * i) (pos 0)) (b .before .before .before .on-line-arg .given),
+      back-at w32 (getD ws (2 * i + 1) (pos 0)) (b .before .before .on-line-arg2 .given),
+      back-at w32 (getD ws (2 * i + 2) (pos 0)) (b .before .on-line-arg3 .given),
+      back-at w32 (getD ws (2 * i + 3) (pos 0)) (b .on-line-arg4 .given),
+      toZ-ofZ (s .fits .v),
+    ) at (c .on-line .ensures) in
     rw (back-at w64 (c .on-line .result) (c .on-line .ok)) (e ∙ sym (value-words (s .pre .0) (s .args .v) i (s .pre .1) (more (b .before .before .before .before))))
 
 pub from-point-spec : {M : Type 1} → statement M

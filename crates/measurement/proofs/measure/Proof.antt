@@ -37,11 +37,12 @@ v-is c =
 linearized-requires : tie.Need-linearized-requires
 linearized-requires c κs =
     let a = c .before .before .before .before in
-    let p = a .pre in
-    (p .curve,
-    rw (v-is c)
-    (scaled-within _ (a .args .s .factor) (a .args .s .divider) (a .args .s .additive)
-    (distance-within (a .args .p) (a .args .s .offset) (a .args .s .round) (omega arith) (p .offset) (p .round)) (p .factor) (p .additive)))
+    let p = a .pre in (
+      p .curve,
+      rw (v-is c)
+          (scaled-within _ (a .args .s .factor) (a .args .s .divider) (a .args .s .additive)
+          (distance-within (a .args .p) (a .args .s .offset) (a .args .s .round) (omega arith) (p .offset) (p .round)) (p .factor) (p .additive)),
+    )
 
 judged-requires : tie.Need-judged-requires
 judged-requires c κs = search needs
