@@ -4,6 +4,7 @@ use Prim.Native.Nat.{ℕ, zero, suc}
 use mathlib.Core.Bool.{cond}
 use lib.IntN.{ℤ, pos, negℤ, natAbs, _-ℤ_, _*ℤ_}
 use lib.Signed.{ltZ, _≤ℤ_}
+use Rattle.integers.specs.Fraction.{Frac, frac}
 use Rattle.integers.specs.Round.{roundDiv}
 
 -- Analog value, f = (r − start) ÷ (end − start): where the end is below the start both signs are turned, so that the lower number is
@@ -14,8 +15,8 @@ upperOf start end r = cond (ltZ end start) (start -ℤ r) (r -ℤ start)
 abbrev pub lowerOf : ℤ → ℤ → ℕ
 lowerOf start end = natAbs (end -ℤ start)
 
-abbrev pub fraction : ℤ → ℤ → ℤ → ℤ × ℕ
-fraction start end r = (upperOf start end r, lowerOf start end)
+abbrev pub fraction : ℤ → ℤ → ℤ → Frac
+fraction start end r = frac (upperOf start end r) (lowerOf start end)
 
 -- Analog value, "32,767 × f" in format 0, "65,535 × f" in formats 1 and 2: the scale, which is the highest code too
 abbrev pub fullScale : ℕ → ℕ
@@ -32,8 +33,8 @@ unfoldable pub held : ℤ → ℤ → ℤ → ℤ
 held lo hi z = cond (ltZ z lo) lo (cond (ltZ hi z) hi z)
 
 -- Analog value, "round(32,767 × f)", "round(65,535 × f)", before it is held
-abbrev pub roundedOf : ℕ → ℤ × ℕ → ℤ
-roundedOf format f = roundDiv (pos (fullScale format) *ℤ f .0) (pos (f .1))
+abbrev pub roundedOf : ℕ → Frac → ℤ
+roundedOf format f = roundDiv (pos (fullScale format) *ℤ f .num) (pos (f .den))
 
 -- Analog value, "code"
 unfoldable pub codeOf : ℕ → ℤ → ℤ → ℤ → ℤ

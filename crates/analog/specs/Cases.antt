@@ -4,6 +4,7 @@ use mathlib.Core.Path.{_≡_, refl}
 use lib.IntN.{pos, negsuc}
 use lib.Ieee.{binary32, ofInt, mul, div, add}
 use Rattle.integers.specs.Round.{roundDiv}
+use Rattle.integers.specs.Fraction.{Frac, frac}
 use Rattle.analog.specs.declared.Drive.the-variants.{Off, Volts, Milliamps}
 use Rattle.analog.specs.AnalogCode.{codeOf, held}
 use Rattle.analog.specs.Drives.{driveFor, driveOf, floatOf, driveValue}
@@ -13,7 +14,7 @@ pub defaults-code : codeOf 0 (pos 0) (pos 10000) (pos 5000) ≡ pos 16384
 unfolding codeOf held roundDiv
 defaults-code = refl
 
-pub defaults-five-volts : driveValue (driveFor 0 (pos 0) (pos 10000) (pos 5000)) ≡ (pos 5, 1)
+pub defaults-five-volts : driveValue (driveFor 0 (pos 0) (pos 10000) (pos 5000)) ≡ frac (pos 5) 1
 unfolding codeOf held roundDiv driveOf floatOf ofInt mul div
 defaults-five-volts = refl
 
@@ -26,7 +27,7 @@ pub format-two-code : codeOf 2 (pos 0) (pos 10000) (pos 5000) ≡ pos 32768
 unfolding codeOf held roundDiv
 format-two-code = refl
 
-pub format-two-twelve-milliamps : driveValue (driveFor 2 (pos 0) (pos 10000) (pos 5000)) ≡ (pos 12, 1)
+pub format-two-twelve-milliamps : driveValue (driveFor 2 (pos 0) (pos 10000) (pos 5000)) ≡ frac (pos 12) 1
 unfolding codeOf held roundDiv driveOf floatOf ofInt mul div add
 format-two-twelve-milliamps = refl
 
@@ -69,9 +70,9 @@ unfolding codeOf held roundDiv
 turned = refl
 
 -- Analog value, "off means 0 V or 0 mA, also in format 2"; the lowest drive of format 2 is 4 mA
-pub off-is-zero : driveValue Off ≡ (pos 0, 1)
+pub off-is-zero : driveValue Off ≡ frac (pos 0) 1
 off-is-zero = refl
 
-pub format-two-lowest : driveValue (driveOf 2 (pos 0)) ≡ (pos 4, 1)
+pub format-two-lowest : driveValue (driveOf 2 (pos 0)) ≡ frac (pos 4) 1
 unfolding driveOf floatOf ofInt mul div add
 format-two-lowest = refl

@@ -13,12 +13,13 @@ use Rattle.integers.specs.Ring.{var, _⊖_, _⊗_, ring, lt-ex, nlt-ex, le}
 use Rattle.integers.specs.Choice.{by-test, is-true, is-false}
 use Rattle.integers.specs.Round.{roundDiv}
 use Rattle.integers.specs.RoundLaws.{off, round-near, round-exact, not-above}
+use Rattle.integers.specs.Fraction.{Frac, frac}
 use Rattle.analog.specs.AnalogCode.{upperOf, lowerOf, fraction, fullScale, lowest, held, roundedOf, codeOf, CodeFits}
 
 -- ---- the rounding: 2 |lower × z − full scale × upper| ≤ lower
 
-pub rounded-near : (format : ℕ) (f : ℤ × ℕ) → 0 < f .1 → off (pos (fullScale format) *ℤ f .0) (pos (f .1)) (roundedOf format f) ≤ f .1
-rounded-near format f h = round-near (pos (fullScale format) *ℤ f .0) (pos (f .1)) (omega (arith, ints))
+pub rounded-near : (format : ℕ) (f : Frac) → 0 < f .den → off (pos (fullScale format) *ℤ f .num) (pos (f .den)) (roundedOf format f) ≤ f .den
+rounded-near format f h = round-near (pos (fullScale format) *ℤ f .num) (pos (f .den)) (omega (arith, ints))
 
 -- ---- the fraction
 
@@ -34,7 +35,7 @@ lower-kept start end t =
     (omega (arith, ltZ-false end start t, sub-is end start, excl (end -ℤ start), abs-is (end -ℤ start)))
 
 -- f is (r − start) ÷ (end − start), by cross-multiplying, and its lower number is above zero
-pub fraction-is : (start end r : ℤ) → fraction start end r .0 *ℤ (end -ℤ start) ≡ (r -ℤ start) *ℤ pos (fraction start end r .1)
+pub fraction-is : (start end r : ℤ) → fraction start end r .num *ℤ (end -ℤ start) ≡ (r -ℤ start) *ℤ pos (fraction start end r .den)
 fraction-is start end r =
     by-test (ltZ end start) (start -ℤ r) (r -ℤ start) (λ (x : ℤ). x *ℤ (end -ℤ start) ≡ (r -ℤ start) *ℤ pos (lowerOf start end))
     (λ t. ring ((var start ⊖ var r) ⊗ (var end ⊖ var start)) ((var r ⊖ var start) ⊗ (var start ⊖ var end)) (omega arith)

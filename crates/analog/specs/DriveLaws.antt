@@ -12,10 +12,11 @@ use lib.Ieee.{Float, binary32, ofInt, lt}
 use lib.Ieee.Exact.{HasValue}
 use Rattle.integers.specs.Int.{ints, abs-is, excl}
 use Rattle.analog.specs.declared.Drive.{Drive}
-use Rattle.analog.specs.Fraction.{Is, Same, valueOf}
+use Rattle.integers.specs.Fraction.{Frac, frac, Same}
+use Rattle.analog.specs.FloatValue.{Is, valueOf}
 use Rattle.analog.specs.AnalogCode.{codeOf, CodeFits}
 use Rattle.analog.specs.CodeLaws.{code-fits}
-use Rattle.analog.specs.Drives.{factor, divisor, offset, analogValue, whole, quotientOf, floatOf, Unrounded, driveOf, driveValue, driveFor}
+use Rattle.analog.specs.Drives.{factor, divisor, offset, analogValue, float, quotientOf, floatOf, Unrounded, driveOf, driveValue, driveFor}
 use Rattle.analog.specs.ExactSteps.{int-exact, cast-is, product-is, quotient-is, sum-is}
 use Rattle.analog.specs.FloatOrder.{is-same, lt-is, scaled-order, scaled-equal, same-trans, same-sym, same-refl}
 
@@ -24,11 +25,11 @@ use Rattle.analog.specs.FloatOrder.{is-same, lt-is, scaled-order, scaled
 -- a format's steps, for a divisor 2 ^ t, once the last step is given
 steps : (format t : ℕ) (code : ℤ)
     → divisor format ≡ 2 ^ t → t ≤ 149 → 0 < factor format → factor format < 2 ^ 24 → divisor format < 2 ^ 24 → natAbs code * factor format < 2 ^ 24
-    → (Is (quotientOf format code) (code *ℤ pos (factor format)) (divisor format) → Is (floatOf format code) (analogValue format code .0) (divisor format))
+    → (Is (quotientOf format code) (code *ℤ pos (factor format)) (divisor format) → Is (floatOf format code) (analogValue format code .num) (divisor format))
     → Unrounded format code
 steps format t code e reach above k d small last =
-    let y = whole (pos (factor format)) in
-    let w = whole (pos (divisor format)) in
+    let y = float (pos (factor format)) in
+    let w = float (pos (divisor format)) in
     let Y : HasValue y false (factor format) 1 = int-exact binary32 (pos (factor format)) k in
     let W : HasValue w false (2 ^ t) 1 = subst (λ (n : ℕ). HasValue w false n 1) e (int-exact binary32 (pos (divisor format)) d) in
     let q : Is (quotientOf format code) (code *ℤ pos (factor format)) (divisor format) =
@@ -52,7 +53,7 @@ unrounded (suc zero) code h =
     steps 1 16 code refl (lit≤ tt) (lit< tt) (lit< tt) (lit< tt) (omega (arith, ints, abs-is code, excl code)) (no-offset _ (code *ℤ pos 20) 65536)
 unrounded (suc (suc k)) code h =
     steps (suc (suc k)) 16 code refl (lit≤ tt) (lit< tt) (lit< tt) (lit< tt) (omega (arith, ints, abs-is code, excl code))
-    (λ q. sum-is binary32 _ (whole (pos 4)) code 16 262144 16 (h .low) q (refl, refl) (lit≤ tt) (omega (arith, ints, abs-is code, excl code)))
+    (λ q. sum-is binary32 _ (float (pos 4)) code 16 262144 16 (h .low) q (refl, refl) (lit≤ tt) (omega (arith, ints, abs-is code, excl code)))
 
 -- ---- what a drive is worth
 
@@ -74,7 +75,7 @@ drive-float (suc k) code = refl
 -- "code × 10 ÷ 32,768; code × 20 ÷ 65,536; code × 16 ÷ 65,536 + 4": a drive is worth exactly that
 pub drive-worth : (format : ℕ) (code : ℤ) → CodeFits format code → Same (driveValue (driveOf format code)) (analogValue format code)
 drive-worth format code h =
-    rw drive-float (is-same (floatOf format code) (analogValue format code .0) (divisor format) (divisor-above format) (unrounded format code h .result))
+    rw drive-float (is-same (floatOf format code) (analogValue format code .num) (divisor format) (divisor-above format) (unrounded format code h .result))
 
 -- and so, for every result, is the drive of the result's code
 pub drive-for-worth : (format : ℕ) (start end r : ℤ) → Same (driveValue (driveFor format start end r)) (analogValue format (codeOf format start end r))
@@ -102,7 +103,7 @@ equal-codes format a b e = ap (driveOf format) e
 -- they compare as their codes do
 pub drive-order : (format : ℕ) (a b : ℤ) → CodeFits format a → CodeFits format b → lt (floatOf format a) (floatOf format b) ≡ ltZ a b
 drive-order format a b h k =
-    lt-is (floatOf format a) (floatOf format b) (analogValue format a .0) (analogValue format b .0) (divisor format) (divisor-above format)
+    lt-is (floatOf format a) (floatOf format b) (analogValue format a .num) (analogValue format b .num) (divisor format) (divisor-above format)
     (unrounded format a h .result) (unrounded format b k .result)
     ∙ scaled-order (factor format) (offset format * divisor format) a b (factor-above format)
 

@@ -13,14 +13,15 @@ use lib.Ieee.Positive.{first-pos}
 use Rattle.integers.specs.Choice.{is-true}
 use Rattle.integers.specs.Int.{P, N}
 use Rattle.integers.specs.Ring.{Exp, var, lit, _⊕_, _⊗_, ring, ring-to, lt-ex, lt-by}
-use Rattle.analog.specs.Fraction.{Is, Same, valueOf}
+use Rattle.integers.specs.Fraction.{Frac, frac, Same}
+use Rattle.analog.specs.FloatValue.{Is, valueOf}
 
 -- ---- the value as a pair
 neg-mul : (k c : ℕ) → negℤ (pos k) *ℤ pos c ≡ negℤ (pos (k * c))
 neg-mul zero c = ap pos (zero-mul c) ∙ sym (ap (λ (x : ℕ). negℤ (pos x)) (zero-mul c))
 neg-mul (suc k) c = refl
 
-pub is-same : (x : Float) (z : ℤ) (c : ℕ) → 0 < c → Is x z c → Same (valueOf x) (z, c)
+pub is-same : (x : Float) (z : ℤ) (c : ℕ) → 0 < c → Is x z c → Same (valueOf x) (frac z c)
 is-same nan (pos n) c C h = absurd h
 is-same nan (negsuc n) c C h = absurd h
 is-same (inf s) (pos n) c C h = absurd h
@@ -99,27 +100,27 @@ scaled-order k o a b K =
     more h = omega arith
 
 -- ---- two fractions that are the same as a third are the same
-pub same-trans : (p q r : ℤ × ℕ) → Same p q → Same q r → Same p r
+pub same-trans : (p q r : Frac) → Same p q → Same q r → Same p r
 same-trans p q r h k =
-    let x = ring-to (var (p .0) ⊗ lit (q .1)) (var (q .0) ⊗ lit (p .1)) (h .2) in
-    let y = ring-to (var (q .0) ⊗ lit (r .1)) (var (r .0) ⊗ lit (q .1)) (k .2) in (
+    let x = ring-to (var (p .num) ⊗ lit (q .den)) (var (q .num) ⊗ lit (p .den)) (h .2) in
+    let y = ring-to (var (q .num) ⊗ lit (r .den)) (var (r .num) ⊗ lit (q .den)) (k .2) in (
       h .0,
       k .1,
-      ring (var (p .0) ⊗ lit (r .1)) (var (r .0) ⊗ lit (p .1))
-          (eq-of-mul-eq-mul-right (q .1) (h .1) _ _ (omega (arith, ap (λ (m : ℕ). m * r .1) x, ap (λ (m : ℕ). m * p .1) y))),
+      ring (var (p .num) ⊗ lit (r .den)) (var (r .num) ⊗ lit (p .den))
+          (eq-of-mul-eq-mul-right (q .den) (h .1) _ _ (omega (arith, ap (λ (m : ℕ). m * r .den) x, ap (λ (m : ℕ). m * p .den) y))),
     )
 
-pub same-sym : (p q : ℤ × ℕ) → Same p q → Same q p
+pub same-sym : (p q : Frac) → Same p q → Same q p
 same-sym p q h = (h .1, h .0, sym (h .2))
 
-pub same-refl : (p : ℤ × ℕ) → 0 < p .1 → Same p p
+pub same-refl : (p : Frac) → 0 < p .den → Same p p
 same-refl p h = (h, h, refl)
 
 -- ---- what is equal after a scale, an offset and a lower number was equal before
 cancel : (k : ℕ) (a b : ℤ) → 0 < k → a *ℤ pos k ≡ b *ℤ pos k → a ≡ b
 cancel k a b K e = ring (var a) (var b) (eq-of-mul-eq-mul-right k K _ _ (omega (arith, ring-to (var a ⊗ lit k) (var b ⊗ lit k) e)))
 
-pub scaled-equal : (k o c : ℕ) (a b : ℤ) → 0 < k → Same (a *ℤ pos k +ℤ pos o, c) (b *ℤ pos k +ℤ pos o, c) → a ≡ b
+pub scaled-equal : (k o c : ℕ) (a b : ℤ) → 0 < k → Same (frac (a *ℤ pos k +ℤ pos o) c) (frac (b *ℤ pos k +ℤ pos o) c) → a ≡ b
 scaled-equal k o c a b K h =
     let e = cancel c (a *ℤ pos k +ℤ pos o) (b *ℤ pos k +ℤ pos o) (h .0) (h .2) in
     ring (var a) (var b) (eq-of-mul-eq-mul-right k K _ _ (omega (arith, ring-to (upperE k o a) (upperE k o b) e)))

@@ -1,4 +1,4 @@
-pub mod Fraction
+pub mod FloatValue
 pub mod AnalogCode
 pub mod Drives
 pub mod ExactSteps

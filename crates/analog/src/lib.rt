@@ -4,7 +4,7 @@ ghost use mathlib.Core.Path.{_≡_};
 ghost use lib.IntN.{pos};
 ghost use Rattle.analog.specs.AnalogCode.{upperOf, lowerOf, fraction, fullScale, lowest, held, roundedOf, codeOf, CodeFits};
 ghost use Rattle.analog.specs.Drives.{floatOf, driveOf, driveValue, analogValue, Unrounded, driveFor};
-ghost use Rattle.analog.specs.Fraction.{Same};
+ghost use Rattle.integers.specs.Fraction.{Same};
 
 // What the analog line is driven with.
 pub enum Drive {

@@ -2,5 +2,6 @@ pub mod Choice
 pub mod Int
 pub mod Ring
 pub mod Round
+pub mod Fraction
 pub mod RoundLaws
 pub mod FloorLaws

@@ -18,7 +18,7 @@ use Rattle.measurement.specs.declared.Error.{Error}
 use Rattle.measurement.specs.declared.Error.the-variants as Error
 use Rattle.measurement.specs.declared.Measured.{Measured}
 use Rattle.measurement.specs.declared.Scaling.{Scaling}
-use Rattle.measurement.specs.Fraction.{Frac, Ratio, atMost, whole, nearest, gap, apart, allowed, Accurate}
+use Rattle.integers.specs.Fraction.{Frac, Ratio, atMost, whole, nearest, gap, apart, allowed, Accurate}
 use Rattle.measurement.specs.Curve.{Point, curve, linearizedOf, fourQuadrants, oneQuadrant, steepest, steepestFrom, rising, origin, Ordered}
 use Rattle.measurement.specs.CurveLaws.{Lip, triangle, lip-four, lip-one, steepest-over, steepest-low, four-den, one-den}
 use Rattle.measurement.specs.Measure.{Z, scaledOf, exact, errorNumber, measured, judgedOf, usedPoints, valueOf, measuredOf, exactOf, exactCurve, distanceOf}

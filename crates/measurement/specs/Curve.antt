@@ -10,7 +10,7 @@ use lib.ListN.{getD}
 use lib.Signed.{leZ, ltZ, nonNeg}
 use Rattle.measurement.specs.declared.Found.{Found}
 use Rattle.measurement.specs.declared.Found.the-variants.{At, Nothing}
-use Rattle.measurement.specs.Fraction.{Frac, Ratio, whole, minus, nearest}
+use Rattle.integers.specs.Fraction.{Frac, Ratio, whole, minus, nearest}
 
 -- a control point
 pub record Point : Type 0 where

@@ -11,7 +11,7 @@ use lib.IntN.{ℤ, pos, negsuc, negℤ, natAbs, _+ℤ_, _-ℤ_, _*ℤ_}
 use lib.Signed.{leZ, ltZ, nonNeg}
 use Rattle.integers.specs.Choice.{by-test}
 use Rattle.integers.specs.Ring.{Exp, var, lit, _⊕_, _⊖_, _⊗_, neg, val, up, dn, ring, abs-ex, abs-plus, abs-times, le-ex, lt-ex, nlt-ex, le-by, nonNeg-N, negative-P}
-use Rattle.measurement.specs.Fraction.{Frac, Ratio, atMost, whole, minus, gap}
+use Rattle.integers.specs.Fraction.{Frac, Ratio, atMost, whole, minus, gap}
 use Rattle.measurement.specs.Curve.{Point, before, line, rightOf, fourQuadrants, oneQuadrant, slope, larger, steepestFrom, rising, origin}
 
 -- ---- on which side of a whole number a fraction lies

@@ -1,6 +1,6 @@
-pub mod Fraction
 pub mod Curve
 pub mod Measure
+pub mod Cases
 pub mod CurveLaws
 pub mod Search
 pub mod Range

@@ -12,7 +12,7 @@ use Rattle.measurement.specs.declared.Error.{Error}
 use Rattle.measurement.specs.declared.Error.the-variants as Error
 use Rattle.measurement.specs.declared.Measured.{Measured}
 use Rattle.measurement.specs.declared.Scaling.{Scaling}
-use Rattle.measurement.specs.Fraction.{Frac}
+use Rattle.integers.specs.Fraction.{Frac}
 use Rattle.measurement.specs.Curve.{Point, pointsFrom, curve, linearizedOf}
 
 -- Z, the largest number shown

@@ -19,7 +19,7 @@ use Rattle.integers.specs.Round.{roundDiv}
 use Rattle.integers.specs.RoundLaws.{round-one, round-neg, round-within}
 use Rattle.measurement.specs.declared.Found.{Found}
 use Rattle.measurement.specs.declared.Found.the-variants.{At, Nothing}
-use Rattle.measurement.specs.Fraction.{Frac, whole, nearest}
+use Rattle.integers.specs.Fraction.{Frac, whole, nearest}
 use Rattle.measurement.specs.Curve.{Point, pointAt, pointsFrom, highestOf, before, line, lineValue, rightOf, fourQuadrants, oneQuadrant, curve, rising}
 
 -- what a table that loads says of its n used points: they are there, within ±Z, and their x rises strictly

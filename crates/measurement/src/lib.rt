@@ -6,7 +6,7 @@ ghost use Prim.Native.Nat.{_+_, _*_, _^_, _≤_, _<_};
 ghost use lib.ListN.{length};
 ghost use lib.Signed.{leZ};
 ghost use Rattle.integers.specs.Int.{Within};
-ghost use Rattle.measurement.specs.Fraction.{whole, nearest};
+ghost use Rattle.integers.specs.Fraction.{whole, nearest};
 ghost use Rattle.measurement.specs.Curve.{highestOf, lineValue, pointsFrom, fourQuadrants, oneQuadrant, linearizedOf};
 ghost use Rattle.measurement.specs.Measure.{turnedOf, distanceOf, scaledOf, judgedOf, measuredOf};
 ghost use Rattle.measurement.specs.Search.{OnLine, Usable};
@@ -120,7 +120,8 @@ pub fn judged(reported: bool, v: i64) -> Measured
 fn later(found: Found, i: usize, x: i32, v: i64) -> Found
     ensures { λ r. ⌜ r ≡ cond (leZ x v) (Found.At i) found ⌝ }
 {
-    if x as i64 <= v {
+    let at = x as i64;
+    if at <= v {
         return Found::At(i);
     }
     found

@@ -7,14 +7,14 @@ use lib.Ieee.{Float}
 use mir.Facts.{toZ-ofZ}
 use Rattle.analog.specs.declared.Drive.{Drive}
 use Rattle.analog.specs.declared.Drive.the-variants.{Volts, Milliamps}
-use Rattle.analog.specs.Fraction.{Same}
+use Rattle.integers.specs.Fraction.{Same}
 use Rattle.analog.specs.AnalogCode.{CodeFits}
 use Rattle.analog.specs.Drives.{floatOf, driveOf, driveValue, analogValue, Unrounded}
 use Rattle.analog.specs.DriveLaws.{unrounded, drive-worth, from-two-fits, from-two-drive}
 use Rattle.analog.proofs.drive_of.Statement.{statement}
 use Rattle.analog.proofs.drive_of.Tie as tie
 
--- the whole promise, once the drive is known
+-- the float promise, once the drive is known
 promised : (d : Drive) (k : ℕ) (z : ℤ) → CodeFits k z → d ≡ driveOf k z → (d ≡ driveOf k z) × (Same (driveValue d) (analogValue k z) × Unrounded k z)
 promised d k z h e = (e, (subst (λ (x : Drive). Same (driveValue x) (analogValue k z)) (sym e) (drive-worth k z h), unrounded k z h))
 

@@ -9,7 +9,7 @@ use mir.Val.{SFits}
 use mir.Facts.{toZ-ofZ}
 use Rattle.integers.specs.Int.{ints, back-at}
 use Rattle.integers.specs.RoundLaws.{round-one}
-use Rattle.measurement.specs.Fraction.{nearest}
+use Rattle.integers.specs.Fraction.{nearest}
 use Rattle.measurement.specs.Search.{value-none}
 use Rattle.measurement.proofs.four_quadrants.Statement.{statement}
 use Rattle.measurement.proofs.four_quadrants.Tie as tie

@@ -10,7 +10,7 @@ use mir.Val.{SFits}
 use mir.Facts.{toZ-ofZ}
 use Rattle.integers.specs.Int.{ints, back-at}
 use Rattle.integers.specs.RoundLaws.{round-one}
-use Rattle.measurement.specs.Fraction.{nearest}
+use Rattle.integers.specs.Fraction.{nearest}
 use Rattle.measurement.specs.Search.{found-at, value-last, value-words, on-words}
 use Rattle.measurement.proofs.from_point.Statement.{statement}
 use Rattle.measurement.proofs.from_point.Tie as tie

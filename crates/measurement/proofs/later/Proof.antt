@@ -5,20 +5,20 @@ use Rattle.integers.specs.Int.{ints}
 use Rattle.measurement.proofs.later.Statement.{statement}
 use Rattle.measurement.proofs.later.Tie as tie
 
-cast-if1 : tie.Need-cast-if1
-cast-if1 c = omega (arith, ints)
+cast-at : tie.Need-cast-at
+cast-at c = omega (arith, ints)
 
 returns : tie.Need-returns
 returns c =
     let s = c .before in
-    let t = rw (toZ-ofZ (cast-if1 s), toZ-ofZ (s .fits .x), toZ-ofZ (s .fits .v)) at (c .if1 .taken) in
+    let t = rw (toZ-ofZ (cast-at s), toZ-ofZ (s .fits .x), toZ-ofZ (s .fits .v)) at (c .if1 .taken) in
     rw t
 
 returns-2 : tie.Need-returns-2
 returns-2 c =
     let s = c .before in
-    let t = rw (toZ-ofZ (cast-if1 s), toZ-ofZ (s .fits .x), toZ-ofZ (s .fits .v)) at (c .if1 .left) in
+    let t = rw (toZ-ofZ (cast-at s), toZ-ofZ (s .fits .x), toZ-ofZ (s .fits .v)) at (c .if1 .left) in
     rw t
 
 pub later-spec : {M : Type 1} → statement M
-later-spec = tie.close (tie.spec cast-if1 returns returns-2)
+later-spec = tie.close (tie.spec cast-at returns returns-2)

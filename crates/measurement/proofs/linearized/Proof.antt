@@ -6,7 +6,7 @@ use mir.Syntax.{w64}
 use mir.Facts.{toZ-ofZ}
 use Rattle.integers.specs.Int.{back-at, kept}
 use Rattle.integers.specs.RoundLaws.{round-one}
-use Rattle.measurement.specs.Fraction.{nearest}
+use Rattle.integers.specs.Fraction.{nearest}
 use Rattle.measurement.specs.Curve.{curve, linearizedOf}
 use Rattle.measurement.specs.Range.{usable}
 use Rattle.measurement.specs.Search.{curve-four}

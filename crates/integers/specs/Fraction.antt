@@ -1,12 +1,20 @@
 -- Fractions as paper 01 has them: a pair of whole numbers, the lower above zero wherever one is used; two are compared by cross-multiplying.
 -- Opening: "A fraction in a statement is a pair of whole numbers". Assumes nothing.
+use mathlib.Core.Path.{_≡_}
 use Prim.Native.Nat.{ℕ, _+_, _*_, _≤_, _<_}
 use lib.IntN.{ℤ, pos, negℤ, natAbs, _-ℤ_, _*ℤ_}
 use Rattle.integers.specs.Round.{roundDiv}
 
 pub record Frac : Type 0 where
   pub num : ℤ
   pub den : ℕ
+
+abbrev pub frac : ℤ → ℕ → Frac
+frac a b = record { num = a; den = b }
+
+-- two fractions are the same
+abbrev pub Same : Frac → Frac → Type 0
+Same p q = (0 < p .den) × (0 < q .den) × (p .num *ℤ pos (q .den) ≡ q .num *ℤ pos (p .den))
 
 -- a fraction that is not negative: a slope without sign, a distance, a bound
 pub record Ratio : Type 0 where
@@ -18,10 +26,10 @@ atMost a b = a .top * b .low ≤ b .top * a .low
 
 -- a whole number, and the negative of a fraction
 abbrev pub whole : ℤ → Frac
-whole z = record { num = z; den = 1 }
+whole z = frac z 1
 
 abbrev pub minus : Frac → Frac
-minus q = record { num = negℤ (q .num); den = q .den }
+minus q = frac (negℤ (q .num)) (q .den)
 
 -- the whole fraction rounded once
 abbrev pub nearest : Frac → ℤ
