@@ -2,6 +2,7 @@ pub mod Rows
 pub mod Slots
 pub mod Search
 pub mod Load
+pub mod TestLaws
 pub mod RowLaws
 pub mod SearchLaws
 pub mod LoadLaws

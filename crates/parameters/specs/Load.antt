@@ -1,6 +1,6 @@
 -- A table is refused with the number of the first condition of 1 to 9 that it meets, and loads exactly when it meets none.
 -- Condenses paper 01, "Where each check sits", load.
-use mathlib.Core.Bool.{Bool, true, false, not, _&&_, _||_, cond}
+use mathlib.Core.Bool.{Bool, false, not, _&&_, _||_, cond}
 use mathlib.Core.List.{List, [], _∷_}
 use Prim.Native.Nat.{ℕ, _+_, _-_}
 use lib.Dec.{eqb, ltb, leb}

@@ -1,17 +1,19 @@
 -- A load's number is the first condition's: each number is returned in its own condition and in no other. The defaults load.
 -- Paper 01, "Where each check sits", load.
 use mathlib.Core.Path.{_≡_, refl, sym, _∙_, ap}
-use mathlib.Core.Bool.{Bool, true, false, cond, not}
+use mathlib.Core.Bool.{Bool, true, false, cond}
 use mathlib.Core.List.{List}
-use Prim.Native.Nat.{ℕ, suc, _+_, _-_, _<_, _≤_}
+use Prim.Native.Nat.{ℕ, suc, _-_, _<_, _≤_}
 use native.Mathlib.Omega.{arith}
-use borrow.Author.Tests.{eq-eqb, ne-eqb, eqb-true, lt-ltb, le-ltb}
-use lib.Dec.{eqb, ltb}
+use borrow.Author.Tests.{eq-eqb, ne-eqb, eqb-true, ltb-true, lt-ltb, le-ltb, not-false}
+use lib.Dec.{eqb}
 use lib.IntN.{ℤ, pos, negsuc}
 use lib.ListN.{length, getD}
 use Rattle.parameters.specs.Rows.{lowestOut, outFrom, rowOf, rowAt, inRange, defaultsFrom, defaultTable}
+use Rattle.parameters.specs.RowLaws.{below-lowest, at-lowest}
+use Rattle.parameters.specs.Slots.{wordAt}
 use Rattle.parameters.specs.Search.{some, firstOf}
-use Rattle.parameters.specs.SearchLaws.{First, first-least, first-own, first-only, first-none, none-first}
+use Rattle.parameters.specs.SearchLaws.{first-least, first-own, first-only, first-none, none-first}
 use Rattle.parameters.specs.Load.{sameZ, wordsMissing, slotOut, fieldWrong, errorBitWrong, spanEmpty, notAbove, pointsNotRising, originMissing, frozenByEdge, freezeOnEdge, differ, differsFrom, polaritiesDiffer, conflicts, conditions, condition, loadNumber, loadSlot, refusal, loadOf}
 
 -- the test of two whole numbers tells whether they are equal
@@ -87,7 +89,20 @@ pub loads-own : (t : List ℤ) → ((n : ℕ) → 1 ≤ n → condition t n ≡ 
 unfolding loadNumber condition
 loads-own t h = none-first 1 (conditions t) (λ j. rw one-less at (h (suc j) (omega arith)))
 
--- the answer's number and slot are these
+-- refusal 2 names the lowest slot out of range
+pub record Named (t : List ℤ) (slot : ℕ) : Type 0 where
+  pub out : inRange slot (wordAt t slot) ≡ false
+  pub lowest : (k : ℕ) → k < slot → inRange k (wordAt t k) ≡ true
+
+pub slot-named : (t : List ℤ) → loadNumber t ≡ 2 → Named t (loadSlot t)
+unfolding loadSlot condition conditions wordsMissing slotOut
+slot-named t e =
+    let r = number-only t 2 (omega arith) e in
+    let long : length t ≡ 104 = eqb-true (length t) 104 (not-false (eqb (length t) 104) (r .none 1 (omega arith) (omega arith))) in
+    let low : lowestOut t < 104 = ltb-true (lowestOut t) 104 (r .own) in
+    rw e (record { out = at-lowest t (omega arith); lowest = λ k h. below-lowest t k h (omega arith) })
+
+-- the answer has this number and this slot, and the table where it loads
 pub answer-number : (t : List ℤ) → loadOf t .number ≡ loadNumber t
 unfolding loadOf
 answer-number t = go (eqb (loadNumber t) 0) refl
@@ -95,6 +110,18 @@ answer-number t = go (eqb (loadNumber t) 0) refl
     go : (b : Bool) → eqb (loadNumber t) 0 ≡ b → cond b (record { number = 0; slot = 0; table = t }) (refusal (loadNumber t) (loadSlot t)) .number ≡ loadNumber t
     go true e = sym (eqb-true (loadNumber t) 0 e)
     go false e = refl
+
+pub answer-slot : (t : List ℤ) → loadOf t .slot ≡ loadSlot t
+unfolding loadOf loadSlot
+answer-slot t = go (eqb (loadNumber t) 0) refl
+  where
+    go : (b : Bool) → eqb (loadNumber t) 0 ≡ b → cond b (record { number = 0; slot = 0; table = t }) (refusal (loadNumber t) (loadSlot t)) .slot ≡ loadSlot t
+    go true e = rw (eqb-true (loadNumber t) 0 e)
+    go false e = refl
+
+pub answer-table : (t : List ℤ) → loadNumber t ≡ 0 → loadOf t .table ≡ t
+unfolding loadOf
+answer-table t e = rw e
 
 -- the defaults load
 pub defaults-load : loadNumber defaultTable ≡ 0

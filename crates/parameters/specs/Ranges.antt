@@ -1,27 +1,22 @@
 -- What a valid table's slots are within, by their rows and by the checks. Arithmetic above rests on these.
-use mathlib.Core.Path.{_≡_, refl, sym, _∙_, ap}
-use mathlib.Core.Bool.{Bool, true, false, _&&_, _||_, not}
+use mathlib.Core.Path.{_≡_, refl}
+use mathlib.Core.Bool.{true, false, _&&_, _||_, not}
 use mathlib.Core.List.{List}
-use Prim.Native.Nat.{ℕ, zero, suc, _+_, _-_, _*_, _<_, _≤_}
+use Prim.Native.Nat.{ℕ, zero, suc, _+_, _*_, _<_, _≤_}
 use native.Mathlib.Omega.{arith}
-use borrow.Author.Tests.{le-ltb, ltb-true, ltb-false, leb-true, leb-false, lt-ltb, le-leb, ne-eqb, eq-eqb, not-true, not-false, eqb-true, eqb-false}
+use borrow.Author.Tests.{le-ltb, ltb-false, leb-false, lt-ltb, le-leb, ne-eqb, eq-eqb, not-false, eqb-true, eqb-false}
 use lib.Dec.{ltb, leb, eqb}
-use lib.IntN.{ℤ, pos, negsuc, negℤ}
-use lib.ListN.{length, getD}
+use lib.IntN.{ℤ, pos, negℤ}
 use lib.Signed.{leZ, _<ℤ_}
-use Rattle.integers.specs.Int.{P, N, excl, Within, within, leZ-true, leZ-false, ltZ-true, lt-of, ints}
-use Rattle.parameters.specs.Rows.{Z, rowOf, rowAt, inRange, whole}
+use Rattle.integers.specs.Int.{P, excl, Within, within, leZ-true, leZ-false, lt-of}
+use Rattle.parameters.specs.Rows.{Z, low, high, rowOf, rowAt, inRange, whole}
 use Rattle.parameters.specs.Slots.{wordAt, natAt, resolution, bitsPerTurn, format, highBit, lowBit, offset, direction, roundLoop, errorBit, errorLevel, factor, divider, additive, linearization, analogFormat, analogStart, analogEnd, preselection, mode, hysteresis, pulse, target, polarity, lock, startup, action, config, pointsInUse, pointX, pointY}
 use Rattle.parameters.specs.Search.{some}
 use Rattle.parameters.specs.SearchLaws.{some-none}
+use Rattle.parameters.specs.TestLaws.{or-both, and-both, and-second}
 use Rattle.parameters.specs.Load.{sameZ, fieldWrong, errorBitWrong, spanEmpty, notAbove, pointsNotRising, originMissing, frozenByEdge, freezeOnEdge, differ, differsFrom, polaritiesDiffer}
 use Rattle.parameters.specs.LoadLaws.{same-yes, same-true}
 use Rattle.parameters.specs.Valid.{Valid}
-
--- both halves of an `&&` that is true are true
-and-both : (a b : Bool) → (a && b) ≡ true → (a ≡ true) × (b ≡ true)
-and-both true b e = (refl, e)
-and-both false b e = let z : _≡_ {A = ℕ} 0 1 = cc in absurd (omega arith)
 
 -- a word between two bounds that are not negative, as a number
 between : (l h : ℕ) (v : ℤ) → (leZ (pos l) v && leZ v (pos h)) ≡ true → (l ≤ P v) × (P v ≤ h)
@@ -39,11 +34,11 @@ whole-within v e =
 
 -- by the row of any slot
 module _ {t : List ℤ} (v : Valid t) where
-  pub nat-range : (slot : ℕ) → slot < 104 → (l h : ℕ) → rowAt slot .low ≡ pos l → rowAt slot .high ≡ pos h → (l ≤ natAt t slot) × (natAt t slot ≤ h)
+  pub nat-range : (slot : ℕ) → slot < 104 → (l h : ℕ) → low (rowAt slot) ≡ pos l → high (rowAt slot) ≡ pos h → (l ≤ natAt t slot) × (natAt t slot ≤ h)
   unfolding inRange
   nat-range slot b l h el eh = between l h (wordAt t slot) (rw (el, eh) at (v .ranged slot b))
 
-  pub whole-range : (slot : ℕ) → slot < 104 → rowAt slot .low ≡ negℤ (pos Z) → rowAt slot .high ≡ pos Z → Within Z (wordAt t slot)
+  pub whole-range : (slot : ℕ) → slot < 104 → low (rowAt slot) ≡ negℤ (pos Z) → high (rowAt slot) ≡ pos Z → Within Z (wordAt t slot)
   unfolding inRange
   whole-range slot b el eh = whole-within (wordAt t slot) (rw (el, eh) at (v .ranged slot b))
 
@@ -122,7 +117,7 @@ module _ {t : List ℤ} (v : Valid t) where
   analog-end-range = whole-range v 16 (omega arith) refl refl
 
 -- what holds of each preselection, and of each input, by the four and the three of them
-four : (Q : ℕ → Type 0) → Q 0 → Q 1 → Q 2 → Q 3 → (k : ℕ) → k < 4 → Q k
+pub four : (Q : ℕ → Type 0) → Q 0 → Q 1 → Q 2 → Q 3 → (k : ℕ) → k < 4 → Q k
 four Q a b c d zero h = a
 four Q a b c d (suc zero) h = b
 four Q a b c d (suc (suc zero)) h = c
@@ -137,7 +132,7 @@ three Q a b c (suc (suc (suc i))) h = absurd (omega arith)
 
 -- a slot's row goes from 0 to h
 abbrev UpTo : ℕ → ℕ → Type 0
-UpTo h slot = (rowAt slot .low ≡ pos 0) × (rowAt slot .high ≡ pos h)
+UpTo h slot = (low (rowAt slot) ≡ pos 0) × (high (rowAt slot) ≡ pos h)
 
 -- the slots of preselection k + 1
 module _ {t : List ℤ} (v : Valid t) (k : ℕ) (b : k < 4) where
@@ -145,8 +140,8 @@ module _ {t : List ℤ} (v : Valid t) (k : ℕ) (b : k < 4) where
   unfolding rowAt rowOf
   preselection-range =
       whole-range v (17 + 8 * k) (omega arith)
-      (four (λ (k : ℕ). rowAt (17 + 8 * k) .low ≡ negℤ (pos Z)) refl refl refl refl k b)
-      (four (λ (k : ℕ). rowAt (17 + 8 * k) .high ≡ pos Z) refl refl refl refl k b)
+      (four (λ (k : ℕ). low (rowAt (17 + 8 * k)) ≡ negℤ (pos Z)) refl refl refl refl k b)
+      (four (λ (k : ℕ). high (rowAt (17 + 8 * k)) ≡ pos Z) refl refl refl refl k b)
 
   of-each : (first h : ℕ) → first < 80 → UpTo h (first + 8 * k) → natAt t (first + 8 * k) ≤ h
   of-each first h l r = nat-range v (first + 8 * k) (omega arith) 0 h (r .0) (r .1) .1
@@ -206,15 +201,6 @@ module _ {t : List ℤ} (v : Valid t) (j : ℕ) (b : j < 24) where
   point-y-range = let r = point-row (57 + 2 * j) (omega arith) in whole-range v (57 + 2 * j) (omega arith) (rw r) (rw r)
 
 -- what the conditions 3 to 9 give where they are not met
-or-both : (a b : Bool) → (a || b) ≡ false → (a ≡ false) × (b ≡ false)
-or-both true b e = let z : _≡_ {A = ℕ} 0 1 = cc in absurd (omega arith)
-or-both false b e = (refl, e)
-
--- an `&&` that is false: its second half is, where the first is not
-and-second : (a b : Bool) → (a && b) ≡ false → a ≡ true → b ≡ false
-and-second true b e h = e
-and-second false b e h = let z : _≡_ {A = ℕ} 0 1 = cc in absurd (omega arith)
-
 module _ {t : List ℤ} (v : Valid t) where
   -- 3: B ≤ H ≤ N
   pub field-range : (lowBit t ≤ highBit t) × (highBit t ≤ resolution t)

@@ -1,5 +1,5 @@
 -- Two searches that the checks are said by: whether some number below n passes a test, and the first condition that holds.
-use mathlib.Core.Bool.{Bool, true, false, _||_, cond}
+use mathlib.Core.Bool.{Bool, false, _||_, cond}
 use mathlib.Core.List.{List, [], _∷_}
 use Prim.Native.Nat.{ℕ, zero, suc}
 

@@ -1,6 +1,6 @@
 -- Laws of the two searches.
-use mathlib.Core.Path.{_≡_, refl, sym, _∙_, ap}
-use mathlib.Core.Bool.{Bool, true, false, _||_, cond, or-true}
+use mathlib.Core.Path.{_≡_, refl}
+use mathlib.Core.Bool.{Bool, true, false, _||_, or-true}
 use mathlib.Core.List.{List, [], _∷_}
 use Prim.Native.Nat.{ℕ, zero, suc, _+_, _<_, _≤_}
 use native.Mathlib.Decide.{ℕ-discrete}
@@ -8,11 +8,7 @@ use native.Mathlib.Numerals.{add-one}
 use native.Mathlib.Omega.{arith}
 use lib.ListN.{getD}
 use Rattle.parameters.specs.Search.{some, firstOf}
-
--- neither half of an `||` that is false is true
-or-both : (a b : Bool) → (a || b) ≡ false → (a ≡ false) × (b ≡ false)
-or-both true b e = let z : _≡_ {A = ℕ} 0 1 = cc in absurd (omega arith)
-or-both false b e = (refl, e)
+use Rattle.parameters.specs.TestLaws.{or-both}
 
 module _ (f : ℕ → Bool) where
   -- none so far, and not the next one

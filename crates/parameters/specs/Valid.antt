@@ -1,18 +1,17 @@
 -- A valid table has 104 words, each within its slot's range, and meets none of the conditions 3 to 9. Exactly such tables load.
 -- Paper 01, "Where each check sits", load.
-use mathlib.Core.Path.{_≡_, refl, sym, _∙_, ap}
-use mathlib.Core.Bool.{Bool, true, false, not, cond}
-use mathlib.Core.List.{List, [], _∷_}
-use Prim.Native.Nat.{ℕ, zero, suc, _+_, _<_, _≤_}
-use native.Mathlib.Nat.{add-zero, zero-add, add-suc, suc-add}
+use mathlib.Core.Path.{_≡_, refl}
+use mathlib.Core.Bool.{Bool, true, false, cond}
+use mathlib.Core.List.{List}
+use Prim.Native.Nat.{ℕ, _<_, _≤_}
 use native.Mathlib.Omega.{arith}
-use borrow.Author.Tests.{not-true, not-false, eqb-true, eq-eqb, ltb-false, le-ltb}
-use lib.Dec.{eqb, ltb}
-use lib.IntN.{ℤ, pos}
-use lib.ListN.{length, getD}
-use Rattle.parameters.specs.Rows.{inRange, outFrom, lowestOut, defaultTable}
+use borrow.Author.Tests.{not-false, eqb-true, ltb-false}
+use lib.Dec.{eqb}
+use lib.IntN.{ℤ}
+use lib.ListN.{length}
+use Rattle.parameters.specs.Rows.{inRange, lowestOut, defaultTable}
+use Rattle.parameters.specs.RowLaws.{below-lowest}
 use Rattle.parameters.specs.Slots.{wordAt}
-use Rattle.parameters.specs.Search.{firstOf}
 use Rattle.parameters.specs.Load.{wordsMissing, slotOut, fieldWrong, errorBitWrong, spanEmpty, pointsNotRising, originMissing, freezeOnEdge, polaritiesDiffer, conflicts, conditions, condition, loadNumber, loadSlot, refusal, loadOf}
 use Rattle.parameters.specs.LoadLaws.{loads-only, defaults-load}
 
@@ -27,17 +26,6 @@ pub record Valid (t : List ℤ) : Type 0 where
   pub freeze : freezeOnEdge t ≡ false
   pub polarities : polaritiesDiffer t ≡ false
 
--- a check that runs past the end has found every slot in range
-all-in : (i : ℕ) (l : List ℤ) → i + length l ≤ outFrom i l → (k : ℕ) → k < length l → inRange (i + k) (getD l k (pos 0)) ≡ true
-unfolding outFrom
-all-in i [] e k h = absurd (omega arith)
-all-in i (v ∷ vs) e k h = go (inRange i v) refl e (all-in (suc i) vs) k h
-  where
-    go : (b : Bool) → inRange i v ≡ b → i + suc (length vs) ≤ cond b (outFrom (suc i) vs) i → (suc i + length vs ≤ outFrom (suc i) vs → (k : ℕ) → k < length vs → inRange (suc i + k) (getD vs k (pos 0)) ≡ true) → (k : ℕ) → k < suc (length vs) → inRange (i + k) (getD (v ∷ vs) k (pos 0)) ≡ true
-    go false p e r k h = absurd (omega arith)
-    go true p e r zero h = rw add-zero p
-    go true p e r (suc k) h = rw (add-suc, ← suc-add) (r (omega arith) k (omega arith))
-
 pub loads : (t : List ℤ) → loadNumber t ≡ 0 → Valid t
 unfolding condition conditions conflicts wordsMissing slotOut
 loads t e =
@@ -45,14 +33,14 @@ loads t e =
     let past : 104 ≤ lowestOut t = ltb-false (lowestOut t) 104 (loads-only t e 2) in
     record {
       long = long;
-      ranged = λ k h. rw zero-add at (all-in 0 t (omega arith) k (omega arith));
+      ranged = λ k h. below-lowest t k (omega arith) (omega arith);
       field = loads-only t e 3;
       error-bit = loads-only t e 4;
       span = loads-only t e 5;
       points = loads-only t e 6;
       origin = loads-only t e 7;
       freeze = loads-only t e 8;
-      polarities = loads-only t e 9
+      polarities = loads-only t e 9;
     }
 
 pub defaults-valid : Valid defaultTable

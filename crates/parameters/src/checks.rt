@@ -1,33 +1,33 @@
 // Checks 3 to 9, which hold slots of a table against each other.
 ghost use mathlib.Core.Path.{_≡_};
-ghost use Prim.Native.Nat.{ℕ, _<_};
+ghost use Prim.Native.Nat.{_<_};
 ghost use Rattle.parameters.specs.Search.{some, firstOf};
 ghost use Rattle.parameters.specs.Load.{fieldWrong, errorBitWrong, sameZ, spanEmpty, notAbove, pointsNotRising, originMissing, frozenByEdge, freezeOnEdge, differ, differsFrom, polaritiesDiffer, conflicts};
-
-use crate::{number, word};
-use crate::{ACTION, ANALOG_END, ANALOG_START, CONFIG, ERROR_BIT, HIGH_BIT, INPUT_STRIDE, LINEARIZATION, LOW_BIT, POINTS_IN_USE, POINT_STRIDE, POINT_X, POINT_Y, POLARITY, PRESELECTION_STRIDE, RESOLUTION, TARGET};
+use crate::number;
+use crate::slots;
+use crate::word;
 
 // 3: B > H or H > N.
 pub fn field_wrong(t: &[i32; 104]) -> bool
     ensures { λ r. ⌜ r ≡ fieldWrong (now (t .entry)) ⌝ }
 {
-    let high = number(t, HIGH_BIT);
-    if high < number(t, LOW_BIT) {
+    let high = number(t, slots::HIGH_BIT);
+    if high < number(t, slots::LOW_BIT) {
         return true;
     }
-    number(t, RESOLUTION) < high
+    number(t, slots::RESOLUTION) < high
 }
 
 // 4: the error bit is above N, or from B to H.
 pub fn error_bit_wrong(t: &[i32; 104]) -> bool
     ensures { λ r. ⌜ r ≡ errorBitWrong (now (t .entry)) ⌝ }
 {
-    let bit = number(t, ERROR_BIT);
-    if number(t, RESOLUTION) < bit {
+    let bit = number(t, slots::ERROR_BIT);
+    if number(t, slots::RESOLUTION) < bit {
         return true;
     }
-    if number(t, LOW_BIT) <= bit {
-        return bit <= number(t, HIGH_BIT);
+    if number(t, slots::LOW_BIT) <= bit {
+        return bit <= number(t, slots::HIGH_BIT);
     }
     false
 }
@@ -46,7 +46,7 @@ pub fn same(a: i32, b: i32) -> bool
 pub fn span_empty(t: &[i32; 104]) -> bool
     ensures { λ r. ⌜ r ≡ spanEmpty (now (t .entry)) ⌝ }
 {
-    same(word(t, ANALOG_START), word(t, ANALOG_END))
+    same(word(t, slots::ANALOG_START), word(t, slots::ANALOG_END))
 }
 
 // Whether the point after point j is used and its x is not above that of point j.
@@ -54,10 +54,10 @@ pub fn not_above(t: &[i32; 104], j: usize) -> bool
     requires { ⌜ j < 23 ⌝ }
     ensures { λ r. ⌜ r ≡ notAbove (now (t .entry)) j ⌝ }
 {
-    let used = number(t, POINTS_IN_USE) as usize;
+    let used = number(t, slots::POINTS_IN_USE) as usize;
     if j + 1 < used {
-        let next = word(t, POINT_X + POINT_STRIDE * (j + 1));
-        return next <= word(t, POINT_X + POINT_STRIDE * j);
+        let next = word(t, slots::POINT_X + slots::POINT_STRIDE * (j + 1));
+        return next <= word(t, slots::POINT_X + slots::POINT_STRIDE * j);
     }
     false
 }
@@ -80,7 +80,7 @@ pub fn some_not_above(t: &[i32; 104]) -> bool
 pub fn points_not_rising(t: &[i32; 104]) -> bool
     ensures { λ r. ⌜ r ≡ pointsNotRising (now (t .entry)) ⌝ }
 {
-    if number(t, LINEARIZATION) == 0 {
+    if number(t, slots::LINEARIZATION) == 0 {
         return false;
     }
     some_not_above(t)
@@ -90,11 +90,11 @@ pub fn points_not_rising(t: &[i32; 104]) -> bool
 pub fn origin_missing(t: &[i32; 104]) -> bool
     ensures { λ r. ⌜ r ≡ originMissing (now (t .entry)) ⌝ }
 {
-    if number(t, LINEARIZATION) != 1 {
+    if number(t, slots::LINEARIZATION) != 1 {
         return false;
     }
-    if same(word(t, POINT_X), 0) {
-        return !same(word(t, POINT_Y), 0);
+    if same(word(t, slots::POINT_X), 0) {
+        return !same(word(t, slots::POINT_Y), 0);
     }
     true
 }
@@ -104,10 +104,10 @@ pub fn frozen_by_edge(t: &[i32; 104], i: usize) -> bool
     requires { ⌜ i < 3 ⌝ }
     ensures { λ r. ⌜ r ≡ frozenByEdge (now (t .entry)) i ⌝ }
 {
-    if number(t, ACTION + INPUT_STRIDE * i) != 2 {
+    if number(t, slots::ACTION + slots::INPUT_STRIDE * i) != 2 {
         return false;
     }
-    let config = number(t, CONFIG + INPUT_STRIDE * i);
+    let config = number(t, slots::CONFIG + slots::INPUT_STRIDE * i);
     if config == 2 {
         return true;
     }
@@ -133,14 +133,15 @@ pub fn differs(t: &[i32; 104], j: usize, k: usize) -> bool
     requires { ⌜ (j < 4) × (k < 4) ⌝ }
     ensures { λ r. ⌜ r ≡ differ (now (t .entry)) j k ⌝ }
 {
-    let output = number(t, TARGET + PRESELECTION_STRIDE * j);
+    let output = number(t, slots::TARGET + slots::PRESELECTION_STRIDE * j);
     if output == 0 {
         return false;
     }
-    if output != number(t, TARGET + PRESELECTION_STRIDE * k) {
+    if output != number(t, slots::TARGET + slots::PRESELECTION_STRIDE * k) {
         return false;
     }
-    number(t, POLARITY + PRESELECTION_STRIDE * j) != number(t, POLARITY + PRESELECTION_STRIDE * k)
+    number(t, slots::POLARITY + slots::PRESELECTION_STRIDE * j)
+        != number(t, slots::POLARITY + slots::PRESELECTION_STRIDE * k)
 }
 
 // Whether some preselection differs from preselection j + 1.

@@ -2,103 +2,71 @@
 ghost use mathlib.Core.Path.{_≡_};
 ghost use Rattle.parameters.specs.Rows.{rowOf, rowAt, inRange, lowestOut, defaultTable};
 
-// A slot's range and default.
-pub struct Row {
-    // The lowest word allowed.
-    pub low: i32,
-    // The highest word allowed.
-    pub high: i32,
-    // The word before anything is set.
-    pub default: i32,
-}
+// A slot's row: the lowest word, the highest word, and the default.
+pub struct Row(pub i32, pub i32, pub i32);
 
+// Every slot's row, in the order of the slots; the points share the last.
 const ROWS: [Row; 57] = [
-    // 0: resolution N
-    Row { low: 10, high: 32, default: 25 },
-    // 1: bits per turn
-    Row { low: 10, high: 16, default: 13 },
-    // 2: format
-    Row { low: 0, high: 1, default: 0 },
-    // 3: high bit H
-    Row { low: 1, high: 32, default: 25 },
-    // 4: low bit B
-    Row { low: 1, high: 32, default: 1 },
-    // 5: offset O
-    Row { low: -99999999, high: 99999999, default: 0 },
-    // 6: direction
-    Row { low: 0, high: 1, default: 0 },
-    // 7: round loop R
-    Row { low: 0, high: 99999999, default: 0 },
-    // 8: error bit
-    Row { low: 0, high: 32, default: 0 },
-    // 9: error level
-    Row { low: 0, high: 1, default: 1 },
-    // 10: factor
-    Row { low: 1, high: 9999999, default: 100000 },
-    // 11: divider
-    Row { low: 1, high: 9999999, default: 100000 },
-    // 12: additive value A
-    Row { low: -99999999, high: 99999999, default: 0 },
-    // 13: linearization
-    Row { low: 0, high: 2, default: 0 },
-    // 14: analog format
-    Row { low: 0, high: 2, default: 0 },
-    // 15: analog start
-    Row { low: -99999999, high: 99999999, default: 0 },
-    // 16: analog end
-    Row { low: -99999999, high: 99999999, default: 10000 },
-    // 17: preselection 1, mode, hysteresis, pulse, target, polarity, lock, start-up suppression
-    Row { low: -99999999, high: 99999999, default: 1000 },
-    Row { low: 0, high: 6, default: 0 },
-    Row { low: 0, high: 9999, default: 0 },
-    Row { low: 0, high: 60000, default: 0 },
-    Row { low: 0, high: 4, default: 1 },
-    Row { low: 0, high: 1, default: 0 },
-    Row { low: 0, high: 1, default: 0 },
-    Row { low: 0, high: 1, default: 0 },
-    // 25: preselection 2, mode, hysteresis, pulse, target, polarity, lock, start-up suppression
-    Row { low: -99999999, high: 99999999, default: 2000 },
-    Row { low: 0, high: 6, default: 0 },
-    Row { low: 0, high: 9999, default: 0 },
-    Row { low: 0, high: 60000, default: 0 },
-    Row { low: 0, high: 4, default: 2 },
-    Row { low: 0, high: 1, default: 0 },
-    Row { low: 0, high: 1, default: 0 },
-    Row { low: 0, high: 1, default: 0 },
-    // 33: preselection 3, mode, hysteresis, pulse, target, polarity, lock, start-up suppression
-    Row { low: -99999999, high: 99999999, default: 3000 },
-    Row { low: 0, high: 6, default: 0 },
-    Row { low: 0, high: 9999, default: 0 },
-    Row { low: 0, high: 60000, default: 0 },
-    Row { low: 0, high: 4, default: 3 },
-    Row { low: 0, high: 1, default: 0 },
-    Row { low: 0, high: 1, default: 0 },
-    Row { low: 0, high: 1, default: 0 },
-    // 41: preselection 4, mode, hysteresis, pulse, target, polarity, lock, start-up suppression
-    Row { low: -99999999, high: 99999999, default: 4000 },
-    Row { low: 0, high: 6, default: 0 },
-    Row { low: 0, high: 9999, default: 0 },
-    Row { low: 0, high: 60000, default: 0 },
-    Row { low: 0, high: 4, default: 4 },
-    Row { low: 0, high: 1, default: 0 },
-    Row { low: 0, high: 1, default: 0 },
-    Row { low: 0, high: 1, default: 0 },
-    // 49: input 1: action, config
-    Row { low: 0, high: 8, default: 0 },
-    Row { low: 0, high: 3, default: 2 },
-    // 51: input 2
-    Row { low: 0, high: 8, default: 0 },
-    Row { low: 0, high: 3, default: 2 },
-    // 53: input 3
-    Row { low: 0, high: 8, default: 0 },
-    Row { low: 0, high: 3, default: 2 },
-    // 55: points in use
-    Row { low: 2, high: 24, default: 2 },
-    // 56: points, x then y
-    Row { low: -99999999, high: 99999999, default: 0 },
+    Row(10, 32, 25), // 0: resolution N
+    Row(10, 16, 13), // 1: bits per turn
+    Row(0, 1, 0), // 2: format: 0 Gray, 1 binary
+    Row(1, 32, 25), // 3: high bit H
+    Row(1, 32, 1), // 4: low bit B
+    Row(-99_999_999, 99_999_999, 0), // 5: offset O
+    Row(0, 1, 0), // 6: direction: 1 reverse
+    Row(0, 99_999_999, 0), // 7: round loop R, 0 off
+    Row(0, 32, 0), // 8: error bit, 0 none
+    Row(0, 1, 1), // 9: level of the error bit that means error
+    Row(1, 9_999_999, 100_000), // 10: factor
+    Row(1, 9_999_999, 100_000), // 11: divider
+    Row(-99_999_999, 99_999_999, 0), // 12: additive value A
+    Row(0, 2, 0), // 13: linearization: 0 off, 1 one quadrant, 2 four
+    Row(0, 2, 0), // 14: analog: 0 ±10 V, 1 0..20 mA, 2 4..20 mA
+    Row(-99_999_999, 99_999_999, 0), // 15: analog start
+    Row(-99_999_999, 99_999_999, 10_000), // 16: analog end
+    Row(-99_999_999, 99_999_999, 1000), // 17: preselection 1
+    Row(0, 6, 0), // 18: its mode
+    Row(0, 9999, 0), // 19: hysteresis
+    Row(0, 60_000, 0), // 20: pulse, ms
+    Row(0, 4, 1), // 21: target output, 0 none
+    Row(0, 1, 0), // 22: polarity: 1 active low
+    Row(0, 1, 0), // 23: lock
+    Row(0, 1, 0), // 24: start-up suppression
+    Row(-99_999_999, 99_999_999, 2000), // 25: preselection 2
+    Row(0, 6, 0), // 26: its mode
+    Row(0, 9999, 0), // 27: hysteresis
+    Row(0, 60_000, 0), // 28: pulse, ms
+    Row(0, 4, 2), // 29: target output, 0 none
+    Row(0, 1, 0), // 30: polarity: 1 active low
+    Row(0, 1, 0), // 31: lock
+    Row(0, 1, 0), // 32: start-up suppression
+    Row(-99_999_999, 99_999_999, 3000), // 33: preselection 3
+    Row(0, 6, 0), // 34: its mode
+    Row(0, 9999, 0), // 35: hysteresis
+    Row(0, 60_000, 0), // 36: pulse, ms
+    Row(0, 4, 3), // 37: target output, 0 none
+    Row(0, 1, 0), // 38: polarity: 1 active low
+    Row(0, 1, 0), // 39: lock
+    Row(0, 1, 0), // 40: start-up suppression
+    Row(-99_999_999, 99_999_999, 4000), // 41: preselection 4
+    Row(0, 6, 0), // 42: its mode
+    Row(0, 9999, 0), // 43: hysteresis
+    Row(0, 60_000, 0), // 44: pulse, ms
+    Row(0, 4, 4), // 45: target output, 0 none
+    Row(0, 1, 0), // 46: polarity: 1 active low
+    Row(0, 1, 0), // 47: lock
+    Row(0, 1, 0), // 48: start-up suppression
+    Row(0, 8, 0), // 49: action of input 1
+    Row(0, 3, 2), // 50: its config: 0 low, 1 high, 2 rising, 3 falling
+    Row(0, 8, 0), // 51: action of input 2
+    Row(0, 3, 2), // 52: its config: 0 low, 1 high, 2 rising, 3 falling
+    Row(0, 8, 0), // 53: action of input 3
+    Row(0, 3, 2), // 54: its config: 0 low, 1 high, 2 rising, 3 falling
+    Row(2, 24, 2), // 55: points in use
+    Row(-99_999_999, 99_999_999, 0), // 56..103: points, x then y
 ];
 
-// Where the row of a slot stands: the points share the last.
+// Where the row of a slot stands.
 pub fn row_of(slot: usize) -> usize
     ensures { λ r. ⌜ r ≡ rowOf slot ⌝ }
 {
@@ -117,8 +85,8 @@ pub fn in_range(slot: usize, v: i32) -> bool
     ensures { λ r. ⌜ r ≡ inRange slot v ⌝ }
 {
     let row = row_at(slot);
-    if row.low <= v {
-        return v <= row.high;
+    if row.0 <= v {
+        return v <= row.1;
     }
     false
 }
@@ -146,7 +114,7 @@ pub fn defaults() -> [i32; 104]
     let mut i: usize = 0;
     while i < 104 {
         let row = row_at(i);
-        let d = row.default;
+        let d = row.2;
         t[i] = d;
         i += 1;
     }

@@ -1,5 +1,5 @@
 -- Each return is one stage of the definition: the length, the ranges, the conflicts, and a table that loads.
-use mathlib.Core.Path.{_≡_, refl, sym, _∙_, ap}
+use mathlib.Core.Path.{_≡_, sym, _∙_, ap}
 use mathlib.Core.List.{List}
 use Prim.Native.Nat.{ℕ}
 use lib.IntN.{ℤ}

@@ -1,5 +1,4 @@
 -- The element read is the slot's word.
-use mathlib.Core.Path.{refl}
 use lib.ListN.{getD}
 use lib.IntN.{pos}
 use mir.Syntax.{w32}

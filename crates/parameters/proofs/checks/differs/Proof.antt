@@ -1,5 +1,4 @@
 -- The tests are the definition's own, on the numbers read.
-use mathlib.Core.Path.{refl}
 use borrow.Author.Tests.{eq-eqb, ne-eqb}
 use Rattle.parameters.specs.Load.{differ}
 use borrow.Author.Needs.{needs}
@@ -30,11 +29,12 @@ number-requires-2 c κs = search needs
 
 returns-2 : tie.Need-returns-2
 unfolding differ
-returns-2 c = rw
-    (← c .before .before .before .number .ensures,
-     ← c .before .number2 .ensures,
-     ne-eqb _ _ (c .before .before .if1 .left),
-     ne-eqb _ _ (c .if2 .taken))
+returns-2 c = rw (
+  ← c .before .before .before .number .ensures,
+  ← c .before .number2 .ensures,
+  ne-eqb _ _ (c .before .before .if1 .left),
+  ne-eqb _ _ (c .if2 .taken),
+)
 
 mul-number-3 : tie.Need-mul-number-3
 mul-number-3 c = search needs
@@ -56,13 +56,14 @@ number-requires-4 c κs = search needs
 
 returns-3 : tie.Need-returns-3
 unfolding differ
-returns-3 c = rw
-    (← c .before .before .before .before .before .number .ensures,
-     ← c .before .before .before .number2 .ensures,
-     ← c .before .number3 .ensures,
-     ← c .number4 .ensures,
-     ne-eqb _ _ (c .before .before .before .before .if1 .left),
-     eq-eqb _ _ (c .before .before .if2 .left))
+returns-3 c = rw (
+  ← c .before .before .before .before .before .number .ensures,
+  ← c .before .before .before .number2 .ensures,
+  ← c .before .number3 .ensures,
+  ← c .number4 .ensures,
+  ne-eqb _ _ (c .before .before .before .before .if1 .left),
+  eq-eqb _ _ (c .before .before .if2 .left),
+)
 
 pub differs-spec : {M : Type 1} → statement M
 differs-spec =

@@ -1,5 +1,4 @@
 -- The tests are the definition's own, on the numbers read.
-use mathlib.Core.Path.{refl}
 use borrow.Author.Tests.{lt-ltb, le-ltb, le-leb, lt-leb}
 use Rattle.parameters.specs.Load.{errorBitWrong}
 use borrow.Author.Needs.{needs}
@@ -24,22 +23,24 @@ number-requires-4 c κs = search needs
 
 returns-2 : tie.Need-returns-2
 unfolding errorBitWrong
-returns-2 c = rw
-    (← c .before .before .before .before .before .number .ensures,
-     ← c .before .before .before .before .number2 .ensures,
-     ← c .before .before .number3 .ensures,
-     ← c .number4 .ensures,
-     le-ltb _ _ (c .before .before .before .if1 .left),
-     le-leb _ _ (c .before .if2 .taken))
+returns-2 c = rw (
+  ← c .before .before .before .before .before .number .ensures,
+  ← c .before .before .before .before .number2 .ensures,
+  ← c .before .before .number3 .ensures,
+  ← c .number4 .ensures,
+  le-ltb _ _ (c .before .before .before .if1 .left),
+  le-leb _ _ (c .before .if2 .taken),
+)
 
 returns-3 : tie.Need-returns-3
 unfolding errorBitWrong
-returns-3 c = rw
-    (← c .before .before .before .before .number .ensures,
-     ← c .before .before .before .number2 .ensures,
-     ← c .before .number3 .ensures,
-     le-ltb _ _ (c .before .before .if1 .left),
-     lt-leb _ _ (c .if2 .left))
+returns-3 c = rw (
+  ← c .before .before .before .before .number .ensures,
+  ← c .before .before .before .number2 .ensures,
+  ← c .before .number3 .ensures,
+  le-ltb _ _ (c .before .before .if1 .left),
+  lt-leb _ _ (c .if2 .left),
+)
 
 pub error-bit-wrong-spec : {M : Type 1} → statement M
 error-bit-wrong-spec =

@@ -1,5 +1,4 @@
 -- The tests are the definition's own, on the numbers read.
-use mathlib.Core.Path.{refl}
 use borrow.Author.Tests.{lt-ltb, le-ltb}
 use Rattle.parameters.specs.Load.{fieldWrong}
 use borrow.Author.Needs.{needs}

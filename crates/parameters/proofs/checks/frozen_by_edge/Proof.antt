@@ -1,5 +1,4 @@
 -- The tests are the definition's own, on the numbers read.
-use mathlib.Core.Path.{refl}
 use borrow.Author.Tests.{eq-eqb, ne-eqb}
 use Rattle.parameters.specs.Load.{frozenByEdge}
 use borrow.Author.Needs.{needs}
@@ -30,19 +29,21 @@ number-requires-2 c κs = search needs
 
 returns-2 : tie.Need-returns-2
 unfolding frozenByEdge
-returns-2 c = rw
-    (← c .before .before .before .number .ensures,
-     ← c .before .number2 .ensures,
-     eq-eqb _ _ (c .before .before .if1 .left),
-     eq-eqb _ _ (c .if2 .taken))
+returns-2 c = rw (
+  ← c .before .before .before .number .ensures,
+  ← c .before .number2 .ensures,
+  eq-eqb _ _ (c .before .before .if1 .left),
+  eq-eqb _ _ (c .if2 .taken),
+)
 
 returns-3 : tie.Need-returns-3
 unfolding frozenByEdge
-returns-3 c = rw
-    (← c .before .before .before .number .ensures,
-     ← c .before .number2 .ensures,
-     eq-eqb _ _ (c .before .before .if1 .left),
-     ne-eqb _ _ (c .if2 .left))
+returns-3 c = rw (
+  ← c .before .before .before .number .ensures,
+  ← c .before .number2 .ensures,
+  eq-eqb _ _ (c .before .before .if1 .left),
+  ne-eqb _ _ (c .if2 .left),
+)
 
 pub frozen-by-edge-spec : {M : Type 1} → statement M
 frozen-by-edge-spec =

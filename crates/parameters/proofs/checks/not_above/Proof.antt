@@ -1,5 +1,4 @@
 -- The tests are the definition's own, on the number and the words read.
-use mathlib.Core.Path.{refl}
 use borrow.Author.Tests.{lt-ltb, le-ltb}
 use mir.Syntax.{w32}
 use Rattle.integers.specs.Int.{back-at}
@@ -42,13 +41,14 @@ returns : tie.Need-returns
 unfolding notAbove
 returns c = let next = c .before .word in
     let here = c .word2 in
-    rw
-    (back-at w32 (next .result) (next .ok),
-     back-at w32 (here .result) (here .ok),
-     ← c .before .before .before .number .ensures,
-     lt-ltb _ _ (c .before .before .if1 .taken),
-     next .ensures,
-     here .ensures)
+    rw (
+      back-at w32 (next .result) (next .ok),
+      back-at w32 (here .result) (here .ok),
+      ← c .before .before .before .number .ensures,
+      lt-ltb _ _ (c .before .before .if1 .taken),
+      next .ensures,
+      here .ensures,
+    )
 
 returns-2 : tie.Need-returns-2
 unfolding notAbove

@@ -1,5 +1,4 @@
 -- The tests are the definition's own, on the number and the words read.
-use mathlib.Core.Path.{_≡_, refl, sym, _∙_}
 use borrow.Author.Tests.{eq-eqb, ne-eqb}
 use mir.Syntax.{w32}
 use Rattle.integers.specs.Int.{back-at}
@@ -31,27 +30,29 @@ returns-2 : tie.Need-returns-2
 unfolding originMissing
 returns-2 c = let x = c .before .before .before .before .word in
     let y = c .before .word2 in
-    rw
-    (c .same2 .ensures,
-     back-at w32 (y .result) (y .ok),
-     y .ensures,
-     ← c .before .before .before .before .before .before .number .ensures,
-     eq-eqb _ _ (c .before .before .before .before .before .if1 .left),
-     ← x .ensures,
-     ← back-at w32 (x .result) (x .ok),
-     ← c .before .before .before .same .ensures,
-     c .before .before .if2 .taken)
+    rw (
+      c .same2 .ensures,
+      back-at w32 (y .result) (y .ok),
+      y .ensures,
+      ← c .before .before .before .before .before .before .number .ensures,
+      eq-eqb _ _ (c .before .before .before .before .before .if1 .left),
+      ← x .ensures,
+      ← back-at w32 (x .result) (x .ok),
+      ← c .before .before .before .same .ensures,
+      c .before .before .if2 .taken,
+    )
 
 returns-3 : tie.Need-returns-3
 unfolding originMissing
 returns-3 c = let x = c .before .before .word in
-    rw
-    (← c .before .before .before .before .number .ensures,
-     eq-eqb _ _ (c .before .before .before .if1 .left),
-     ← x .ensures,
-     ← back-at w32 (x .result) (x .ok),
-     ← c .before .same .ensures,
-     c .if2 .left)
+    rw (
+      ← c .before .before .before .before .number .ensures,
+      eq-eqb _ _ (c .before .before .before .if1 .left),
+      ← x .ensures,
+      ← back-at w32 (x .result) (x .ok),
+      ← c .before .same .ensures,
+      c .if2 .left,
+    )
 
 pub origin-missing-spec : {M : Type 1} → statement M
 origin-missing-spec =

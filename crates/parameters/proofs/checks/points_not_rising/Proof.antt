@@ -1,5 +1,4 @@
 -- The test is the definition's own, on the number read.
-use mathlib.Core.Path.{refl}
 use borrow.Author.Tests.{eq-eqb, ne-eqb}
 use Rattle.parameters.specs.Load.{pointsNotRising}
 use borrow.Author.Needs.{needs}

@@ -1,5 +1,4 @@
 -- The two words read are the start and the end.
-use mathlib.Core.Path.{refl}
 use mir.Syntax.{w32}
 use Rattle.integers.specs.Int.{back-at}
 use Rattle.parameters.specs.Load.{spanEmpty}

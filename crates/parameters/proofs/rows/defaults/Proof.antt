@@ -40,11 +40,12 @@ loop-less c = omega arith
 loop-again : tie.Need-loop-again Inv-loop μ-loop
 loop-again c = let l = c .before .before .before .loop in
     let r = c .before .row-at in
-    let e : toZ w32 (ofZ w32 (r .result .default)) ≡ r .result .default = search needs in
-    rw e
-    (omega arith,
-     length-set (l .t) (l .i) (r .result .default) ∙ l .inv .1,
-     copy-more (l .t) defaultTable (l .i) (pos 0) (r .result .default) (omega arith) (omega (arith, default-length)) (l .inv .2) (rw (r .ensures) (sym (default-at (l .i) (omega arith)))))
+    let e : toZ w32 (ofZ w32 (r .result .2)) ≡ r .result .2 = search needs in
+    rw e (
+      omega arith,
+      length-set (l .t) (l .i) (r .result .2) ∙ l .inv .1,
+      copy-more (l .t) defaultTable (l .i) (pos 0) (r .result .2) (omega arith) (omega (arith, default-length)) (l .inv .2) (rw (r .ensures) (sym (default-at (l .i) (omega arith)))),
+    )
 
 returns : tie.Need-returns Inv-loop μ-loop
 returns c = let l = c .before .loop in

