@@ -3,7 +3,7 @@ use mathlib.Core.Path.{_≡_, refl}
 use mathlib.Core.Bool.{Bool, true, false}
 use mathlib.Core.List.{List, [], _∷_}
 use lib.IntN.{ℤ, pos}
-use Rattle.switching.specs.Condition.{onAbove, onNear, compared, against, ruleOf, conditionOf}
+use Rattle.switching.specs.Condition.{latchedOf, onAbove, onNear, compared, against, ruleOf, conditionOf}
 
 -- the conditions after results, one after the other, from the condition before
 unfoldable pub conditionsOf : (ℤ → Bool → Bool) → Bool → List ℤ → List Bool
@@ -12,7 +12,7 @@ conditionsOf step was (r ∷ rs) = step r was ∷ conditionsOf step (step r was)
 
 -- P mode 3, P = 1,000, h = 10: 999, 1000, 990, 989 give off, on, on, off
 pub mode-three : conditionsOf (λ r was. conditionOf 3 r (pos 1000) (pos 0) 10 was) false (pos 999 ∷ pos 1000 ∷ pos 990 ∷ pos 989 ∷ []) ≡ false ∷ true ∷ true ∷ false ∷ []
-unfolding conditionsOf conditionOf ruleOf compared against onAbove
+unfolding conditionsOf conditionOf ruleOf compared against onAbove latchedOf
 mode-three = refl
 
 -- P mode 5, P = 100, h = 5: on from 98 to 102

@@ -16,13 +16,17 @@ byMode mode x₀ x₁ x₂ x₃ x₄ x₅ x₆ = getD (x₀ ∷ x₁ ∷ x₂ �
 abbrev pub unsigned : ℤ → ℤ
 unsigned z = pos (natAbs z)
 
+-- Switching, "on at .., off at .., else kept"
+unfoldable pub latchedOf : Bool → Bool → Bool → Bool
+latchedOf on off was = cond on true (cond off false was)
+
 -- Switching, mode 3: on at r ≥ P, off at r < P − h, else kept
 unfoldable pub onAbove : ℤ → ℤ → ℕ → Bool → Bool
-onAbove r p h was = cond (leZ p r) true (cond (ltZ r (p -ℤ pos h)) false was)
+onAbove r p h was = latchedOf (leZ p r) (ltZ r (p -ℤ pos h)) was
 
 -- Switching, mode 4: on at r ≤ P, off at r > P + h, else kept
 unfoldable pub onBelow : ℤ → ℤ → ℕ → Bool → Bool
-onBelow r p h was = cond (leZ r p) true (cond (ltZ (p +ℤ pos h) r) false was)
+onBelow r p h was = latchedOf (leZ r p) (ltZ (p +ℤ pos h) r) was
 
 -- Switching, mode 5: on exactly when 2 × |r − P| ≤ h
 unfoldable pub onNear : ℤ → ℤ → ℕ → Bool

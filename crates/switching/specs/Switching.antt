@@ -85,15 +85,18 @@ partnerOf (suc zero) = 0
 partnerOf (suc (suc zero)) = 3
 partnerOf (suc (suc (suc k))) = 2
 
--- switch k after an event
+-- switch k after an event, with the P of its partner
 unfoldable pub switchedAt : List Preselection → ℤ → ℕ → Switch → Switch
 switchedAt ps r k s = switchedOf (preselectionAt ps k) (preselectionAt ps (partnerOf k) .value) r s
 
+-- Switching, "after each telegram or levels event": the four
 abbrev pub allSwitched : List Preselection → ℤ → List Switch → List Switch
 allSwitched ps r ss = eachFrom 0 (switchedAt ps r) ss
 
+-- Switching, "ticks use it up": the four
 abbrev pub allTicked : ℕ → List Switch → List Switch
 allTicked ms ss = eachFrom 0 (λ k. tickedOf ms) ss
 
+-- Events and inputs, action 3, "clear locks": the four
 abbrev pub allUnlocked : List Switch → List Switch
 allUnlocked ss = eachFrom 0 (λ k. unlockedOf) ss

@@ -11,7 +11,7 @@ use lib.ListN.{length}
 use Rattle.switching.specs.declared.Preselection.{Preselection}
 use Rattle.switching.specs.declared.Switch.{Switch}
 use Rattle.switching.specs.Condition.{conditionOf}
-use Rattle.switching.specs.Switching.{freshSwitch, releasedOf, heldOf, turnedOf, lockedOf, switchedOf, tickedOf, unlockedOf, switchAt, partnerOf, switchedAt, allSwitched, allTicked, allUnlocked}
+use Rattle.switching.specs.Switching.{freshSwitch, releasedOf, heldOf, turnedOf, lockedOf, switchedOf, tickedOf, unlockedOf, preselectionAt, switchAt, partnerOf, switchedAt, allSwitched, allTicked, allUnlocked}
 use Rattle.switching.specs.EachLaws.{each-at}
 use Rattle.switching.specs.Travel.{hysteretic}
 use Rattle.switching.specs.TravelLaws.{Turns, view, mark, condition-turns}
@@ -70,6 +70,19 @@ switched-turns p partner r s y k =
     (condition-turns (p .mode) y r (p .value) partner (p .hysteresis) (s .on))
 
 -- ---- the four
+
+pub switched-at-held : (ps : List Preselection) (r : ℤ) (k : ℕ) (s : Switch) → Held (switchedAt ps r k s)
+unfolding switchedAt
+switched-at-held ps r k s = switched-held (preselectionAt ps k) (preselectionAt ps (partnerOf k) .value) r s
+
+-- what switch k is held against
+abbrev pub markAt : List Preselection → ℕ → ℤ
+markAt ps k = mark (preselectionAt ps k .mode) (preselectionAt ps k .value) (preselectionAt ps (partnerOf k) .value)
+
+pub switched-at-turns : (ps : List Preselection) (r : ℤ) (k : ℕ) (s : Switch) → T (hysteretic (preselectionAt ps k .mode)) → Held s →
+    Turns (view (preselectionAt ps k .mode) r) (markAt ps k) (preselectionAt ps k .hysteresis) (s .on) (switchedAt ps r k s .on)
+unfolding switchedAt
+switched-at-turns ps r k s y h = switched-turns (preselectionAt ps k) (preselectionAt ps (partnerOf k) .value) r s y h
 
 pub partner-below : (k : ℕ) → partnerOf k < 4
 unfolding partnerOf

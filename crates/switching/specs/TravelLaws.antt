@@ -2,7 +2,7 @@
 -- Paper 01, "Runs" and demand 3's second half. The argument is one for all modes: what a mode compares is turned so that on is upward, and moves no further
 -- than the result (`Gentle`); a change is paid for by what was spent of the h + 1 on the way to it (`spent`). Assumes nothing.
 use mathlib.Core.Path.{_≡_, sym, subst}
-use mathlib.Core.Bool.{Bool, true, false, not, cond}
+use mathlib.Core.Bool.{Bool, true, false, not}
 use mathlib.Core.List.{List, [], _∷_}
 use Prim.Native.Nat.{ℕ, zero, suc, _+_, _*_, _-_, min, _≤_}
 use native.Mathlib.Numerals.{add-one}
@@ -12,8 +12,7 @@ use lib.IntN.{ℤ, pos, negsuc, negℤ, natAbs, _+ℤ_, _-ℤ_}
 use lib.Signed.{leZ, ltZ}
 use Rattle.integers.specs.Int.{P}
 use Rattle.integers.specs.Ring.{var, lit, _⊕_, _⊖_, neg, abs-ex, pos-ex, le-ex, lt-ex, le-by, lt-by}
-use Rattle.integers.specs.Choice.{by-test}
-use Rattle.switching.specs.Condition.{byMode, unsigned, onAbove, onBelow, compared, against, ruleOf, conditionOf}
+use Rattle.switching.specs.Condition.{byMode, unsigned, latchedOf, onAbove, onBelow, compared, against, ruleOf, conditionOf}
 use Rattle.switching.specs.Travel.{Seen, travel, changed, changes, hysteretic}
 
 -- ---- one event
@@ -123,25 +122,23 @@ gentle (suc (suc (suc (suc zero)))) = gentle-neg
 gentle (suc (suc (suc (suc (suc zero))))) = gentle-same
 gentle (suc (suc (suc (suc (suc (suc mode)))))) = gentle-same
 
+-- a condition that is on, off or kept, on only at g ≥ p and off only at g < p − h
+latched-turns : (g p : ℤ) (h : ℕ) (on off was : Bool) → (T on → T (leZ p g)) → (T off → T (ltZ g (p -ℤ pos h))) → Turns g p h was (latchedOf on off was)
+unfolding latchedOf
+latched-turns g p h true off was a b = record { turns-on = λ n y. a tt; turns-off = λ y n. absurd n }
+latched-turns g p h false true was a b = record { turns-on = λ n y. absurd y; turns-off = λ y n. b tt }
+latched-turns g p h false false was a b = stays g p h was
+
 above-turns : (r p : ℤ) (h : ℕ) (was : Bool) → Turns r p h was (onAbove r p h was)
 unfolding onAbove
-above-turns r p h was =
-    by-test (leZ p r) true (cond (ltZ r (p -ℤ pos h)) false was) (Turns r p h was)
-    (λ t. record { turns-on = λ a b. t; turns-off = λ a b. absurd b })
-    (λ t.
-    by-test (ltZ r (p -ℤ pos h)) false was (Turns r p h was)
-    (λ u. record { turns-on = λ a b. absurd b; turns-off = λ a b. u })
-    (λ u. stays r p h was))
+above-turns r p h was = latched-turns r p h (leZ p r) (ltZ r (p -ℤ pos h)) was (λ t. t) (λ t. t)
 
 below-turns : (r p : ℤ) (h : ℕ) (was : Bool) → Turns (negℤ r) (negℤ p) h was (onBelow r p h was)
 unfolding onBelow
 below-turns r p h was =
-    by-test (leZ r p) true (cond (ltZ (p +ℤ pos h) r) false was) (Turns (negℤ r) (negℤ p) h was)
-    (λ t. record { turns-on = λ a b. le-by (neg (var p)) (neg (var r)) (omega (arith, le-ex (var r) (var p) t)); turns-off = λ a b. absurd b })
-    (λ t.
-    by-test (ltZ (p +ℤ pos h) r) false was (Turns (negℤ r) (negℤ p) h was)
-    (λ u. record { turns-on = λ a b. absurd b; turns-off = λ a b. lt-by (neg (var r)) (neg (var p) ⊖ lit h) (omega (arith, lt-ex (var p ⊕ lit h) (var r) u)) })
-    (λ u. stays (negℤ r) (negℤ p) h was))
+    latched-turns (negℤ r) (negℤ p) h (leZ r p) (ltZ (p +ℤ pos h) r) was
+    (λ t. le-by (neg (var p)) (neg (var r)) (omega (arith, le-ex (var r) (var p) t)))
+    (λ t. lt-by (neg (var r)) (neg (var p) ⊖ lit h) (omega (arith, lt-ex (var p ⊕ lit h) (var r) t)))
 
 -- the rule of each mode with a hysteresis obeys `Turns`
 pub rule-turns : (mode : ℕ) → T (hysteretic mode) → (r p : ℤ) (h : ℕ) (was : Bool) → Turns (upward mode r) (upward mode p) h was (ruleOf mode r p h was)
@@ -157,3 +154,7 @@ rule-turns (suc (suc (suc (suc (suc (suc mode)))))) t r p h was = above-turns r 
 pub condition-turns : (mode : ℕ) → T (hysteretic mode) → (r own partner : ℤ) (h : ℕ) (was : Bool) → Turns (view mode r) (mark mode own partner) h was (conditionOf mode r own partner h was)
 unfolding view mark conditionOf
 condition-turns mode t r own partner h was = rule-turns mode t (compared mode r) (against mode own partner) h was
+
+-- THE BOUND FOR A MODE: a list in which each event obeys the mode's `Turns`, from the result 0 and the condition off
+pub mode-bound : (mode : ℕ) (own partner : ℤ) (h : ℕ) (ss : List Seen) → Lawful (view mode) (mark mode own partner) h false ss → (changes false ss - 1) * (h + 1) ≤ travel (pos 0) ss
+mode-bound mode own partner h ss t = travel-bound (view mode) (gentle mode) (mark mode own partner) h ss t

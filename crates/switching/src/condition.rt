@@ -1,7 +1,7 @@
 // The condition of a preselection by its mode. The sums are made in 64 bits, so that none of them wraps.
 ghost use mathlib.Core.Path.{_≡_};
 ghost use Rattle.integers.specs.Int.{Within};
-ghost use Rattle.switching.specs.Condition.{unsigned, compared, against, onAbove, onBelow, onNear, conditionOf, exceeds};
+ghost use Rattle.switching.specs.Condition.{unsigned, compared, against, latchedOf, onAbove, onBelow, onNear, conditionOf, exceeds};
 
 // A number without its sign.
 fn magnitude(x: i64) -> i64
@@ -11,12 +11,19 @@ fn magnitude(x: i64) -> i64
     if x < 0 { 0 - x } else { x }
 }
 
+// A word without its sign.
+fn without_sign(x: i32) -> i64
+    ensures { λ m. ⌜ m ≡ unsigned x ⌝ }
+{
+    magnitude(x as i64)
+}
+
 // What a mode compares of the result.
 fn compared_of(mode: u32, r: i32) -> i64
     ensures { λ x. ⌜ x ≡ compared mode r ⌝ }
 {
     if mode < 3 {
-        return magnitude(r as i64);
+        return without_sign(r);
     }
     r as i64
 }
@@ -25,13 +32,23 @@ fn compared_of(mode: u32, r: i32) -> i64
 fn against_of(mode: u32, own: i32, partner: i32) -> i64
     ensures { λ x. ⌜ x ≡ against mode own partner ⌝ }
 {
-    if mode < 3 {
-        return magnitude(own as i64);
+    if mode >= 6 {
+        return partner as i64 - own as i64;
     }
-    if mode < 6 {
+    if mode >= 3 {
         return own as i64;
     }
-    partner as i64 - own as i64
+    without_sign(own)
+}
+
+// On where on holds, off where off holds, else kept.
+fn latched(on: bool, off: bool, was: bool) -> bool
+    ensures { λ b. ⌜ b ≡ latchedOf on off was ⌝ }
+{
+    if on {
+        return true;
+    }
+    if off { false } else { was }
 }
 
 // Mode 3: on at r ≥ p, off at r < p − h, else kept.
@@ -39,13 +56,7 @@ fn on_above(r: i64, p: i64, h: u32, was: bool) -> bool
     requires { ⌜ Within 4294967296 p ⌝ }
     ensures { λ on. ⌜ on ≡ onAbove r p h was ⌝ }
 {
-    if p <= r {
-        return true;
-    }
-    if r < p - h as i64 {
-        return false;
-    }
-    was
+    latched(p <= r, r < p - h as i64, was)
 }
 
 // Mode 4: on at r ≤ p, off at r > p + h, else kept.
@@ -53,13 +64,7 @@ fn on_below(r: i64, p: i64, h: u32, was: bool) -> bool
     requires { ⌜ Within 4294967296 p ⌝ }
     ensures { λ on. ⌜ on ≡ onBelow r p h was ⌝ }
 {
-    if r <= p {
-        return true;
-    }
-    if p + (h as i64) < r {
-        return false;
-    }
-    was
+    latched(r <= p, p + (h as i64) < r, was)
 }
 
 // Mode 5: on exactly when 2 × |r − p| ≤ h.

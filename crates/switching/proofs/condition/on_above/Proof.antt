@@ -1,7 +1,7 @@
--- `switching::condition::on_above` meets its contract: each way out has the tests that the definition makes.
+-- `switching::condition::on_above` meets its contract: the call gets the two tests of the definition, with P − h made in 64 bits.
+use mathlib.Core.Path.{_≡_}
 use native.Mathlib.Omega.{arith}
 use borrow.Author.Needs.{needs}
-use mathlib.Core.Path.{_≡_}
 use lib.IntN.{pos, _-ℤ_}
 use mir.Syntax.{w64}
 use mir.Val.{SFits, toZ}
@@ -11,36 +11,27 @@ use Rattle.switching.specs.Condition.{onAbove}
 use Rattle.switching.proofs.condition.on_above.Statement.{statement}
 use Rattle.switching.proofs.condition.on_above.Tie as tie
 
--- h as it is read back, and P − h in 64 bits
+-- h as it is read back
 h-is : (s : tie.Start) → toZ w64 (s .args .h) ≡ pos (s .args .h)
 h-is s = toZ-pos w64 (omega arith)
 
-mark-fits : (s : tie.Start) → SFits w64 (s .args .p -ℤ pos (s .args .h))
-mark-fits s = omega (arith, ints)
+end-fits : (s : tie.Start) → SFits w64 (s .args .p -ℤ pos (s .args .h))
+end-fits s = omega (arith, ints)
+
+cast-latched : tie.Need-cast-latched
+cast-latched c = search needs
+
+sub-latched : tie.Need-sub-latched
+sub-latched c = rw (toZ-ofZ (c .fits .p), h-is c) (end-fits c)
+
+latched-requires : tie.Need-latched-requires
+latched-requires c κs = search needs
 
 returns : tie.Need-returns
 unfolding onAbove
-returns c = let f = c .before .fits in simp (simp (toZ-ofZ, f .p, f .r) at (c .if1 .taken))
-
-cast-if2 : tie.Need-cast-if2
-cast-if2 c = search needs
-
-sub-if2 : tie.Need-sub-if2
-sub-if2 c = rw (toZ-ofZ (c .before .fits .p), h-is (c .before)) (mark-fits (c .before))
-
-returns-2 : tie.Need-returns-2
-unfolding onAbove
-returns-2 c =
-    let s = c .before .before in
-    let f = s .fits in
-    simp (simp (toZ-ofZ, f .p, f .r) at (c .before .if1 .left), simp (toZ-ofZ, f .p, f .r, h-is s, mark-fits s) at (c .if2 .taken))
-
-returns-3 : tie.Need-returns-3
-unfolding onAbove
-returns-3 c =
-    let s = c .before .before in
-    let f = s .fits in
-    simp (simp (toZ-ofZ, f .p, f .r) at (c .before .if1 .left), simp (toZ-ofZ, f .p, f .r, h-is s, mark-fits s) at (c .if2 .left))
+returns c =
+    let s = c .before in
+    rw (c .latched .ensures, toZ-ofZ (sub-latched s), toZ-ofZ (s .fits .p), toZ-ofZ (s .fits .r), h-is s)
 
 pub on-above-spec : {M : Type 1} → statement M
-on-above-spec = tie.close (tie.spec returns cast-if2 sub-if2 returns-2 returns-3)
+on-above-spec = tie.close (tie.spec cast-latched sub-latched latched-requires returns)
