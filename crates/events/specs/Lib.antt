@@ -1,0 +1,4 @@
+pub mod Words
+pub mod Log
+pub mod LogLaws
+pub mod WordLaws
