@@ -5,13 +5,14 @@ use mathlib.Core.Bool.{Bool, true, false, cond}
 use mathlib.Core.List.{List}
 use Prim.Native.Nat.{ℕ, _<_, _≤_}
 use native.Mathlib.Omega.{arith}
-use borrow.Author.Tests.{not-false, eqb-true, ltb-false}
-use lib.Dec.{eqb}
+use borrow.Author.Tests.{not-false, eqb-true, eq-eqb, ltb-true, ltb-false}
+use lib.Dec.{eqb, ltb}
 use lib.IntN.{ℤ}
 use lib.ListN.{length}
 use Rattle.parameters.specs.Rows.{inRange, lowestOut, defaultTable}
-use Rattle.parameters.specs.RowLaws.{below-lowest}
+use Rattle.parameters.specs.RowLaws.{below-lowest, at-lowest}
 use Rattle.parameters.specs.Slots.{wordAt}
+use Rattle.parameters.specs.Search.{firstOf}
 use Rattle.parameters.specs.Load.{wordsMissing, slotOut, fieldWrong, errorBitWrong, spanEmpty, pointsNotRising, originMissing, freezeOnEdge, polaritiesDiffer, conflicts, conditions, condition, loadNumber, loadSlot, refusal, loadOf}
 use Rattle.parameters.specs.LoadLaws.{loads-only, defaults-load}
 
@@ -26,6 +27,7 @@ pub record Valid (t : List ℤ) : Type 0 where
   pub freeze : freezeOnEdge t ≡ false
   pub polarities : polaritiesDiffer t ≡ false
 
+-- a table that loads is valid, and a valid table loads
 pub loads : (t : List ℤ) → loadNumber t ≡ 0 → Valid t
 unfolding condition conditions conflicts wordsMissing slotOut
 loads t e =
@@ -42,6 +44,30 @@ loads t e =
       freeze = loads-only t e 8;
       polarities = loads-only t e 9;
     }
+
+pub valid-loads : {t : List ℤ} → Valid t → loadNumber t ≡ 0
+unfolding loadNumber conditions conflicts firstOf wordsMissing slotOut
+valid-loads {t} v =
+    rw (
+      eq-eqb (length t) 104 (v .long),
+      in-all (ltb (lowestOut t) 104) refl,
+      v .field,
+      v .error-bit,
+      v .span,
+      v .points,
+      v .origin,
+      v .freeze,
+      v .polarities,
+    )
+  where
+    in-all : (b : Bool) → ltb (lowestOut t) 104 ≡ b → ltb (lowestOut t) 104 ≡ false
+    in-all false e = e
+    in-all true e =
+        let low : lowestOut t < 104 = ltb-true (lowestOut t) 104 e in
+        let o = at-lowest t (omega (arith, v .long)) in
+        let i = v .ranged (lowestOut t) low in
+        let z : _≡_ {A = ℕ} 0 1 = cc in
+        absurd (omega arith)
 
 pub defaults-valid : Valid defaultTable
 defaults-valid = loads defaultTable defaults-load
