@@ -1,4 +1,4 @@
--- None of those below i is one; the first that is ends the loop.
+-- No input below i freezes on an edge, as far as the loop has come; the first that does ends it.
 use mathlib.Core.Path.{_≡_, refl, sym, _∙_}
 use mathlib.Core.Bool.{false}
 use Prim.Native.Nat.{_≤_, _-_}

@@ -1,4 +1,4 @@
--- None of those below j is one; the first that is ends the loop.
+-- Up to point j each used x is above the one before it, as far as the loop has come; the first that is not ends it.
 use mathlib.Core.Path.{_≡_, refl, sym, _∙_}
 use mathlib.Core.Bool.{false}
 use Prim.Native.Nat.{_≤_, _-_}
