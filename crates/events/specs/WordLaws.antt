@@ -1,53 +1,86 @@
--- Each refusal of the log in its own condition and in no other: 14, 15 and 16.
-use mathlib.Core.Path.{_≡_, refl, sym, ap, _∙_}
+-- Each number of the log in its own condition and in no other: 14, 15 and 16; and what a word of each kind gives.
+use mathlib.Core.Path.{_≡_, refl}
 use mathlib.Core.Bool.{Bool, true, false, cond, not}
-use mathlib.Core.Logic.{_⊎_}
-use Prim.Native.Nat.{ℕ, zero, suc, _≤_, _<_}
+use mathlib.Core.Logic.{_⊎_, inl, inr}
+use Prim.Native.Nat.{ℕ}
 use native.Mathlib.Omega.{arith}
 use lib.Dec.{eqb}
 use Rattle.events.specs.declared.Event.{Event}
+use Rattle.events.specs.declared.Event.the-variants.{Telegram, Levels, Tick}
 use Rattle.events.specs.declared.Pending.{Pending}
 use Rattle.events.specs.declared.Taken.{Taken}
 use Rattle.events.specs.declared.Taken.the-variants.{Happened, Nothing, Refused}
 use Rattle.events.specs.declared.Step.{Step}
-use Rattle.events.specs.Words.{kindOf, reservedSet}
-use Rattle.events.specs.Log.{freshPending, happened, kept, refused, outOfOrder, acceptedOf, wordOf, endOf}
+use Rattle.events.specs.Words.{bitsOf, kindOf, msOf, levelsOf, halfOf, telegramOf, reservedSet}
+use Rattle.events.specs.Log.{happened, kept, refused, outOfOrder, acceptedOf, wordOf, endOf}
 
--- the number with which a word is refused, 0 where it is not
-abbrev pub numberOf : Taken → ℕ
-numberOf (Happened e) = 0
-numberOf Nothing = 0
-numberOf (Refused n) = n
+-- ---- each condition gives its number
+module _ (p : Pending) (w : ℕ) where
+  pub reserved-14 : reservedSet w ≡ true → wordOf p w ≡ refused 14
+  unfolding wordOf
+  reserved-14 r = rw r
 
-unfoldable pub wordNumber : Pending → ℕ → ℕ
-wordNumber p w = cond (reservedSet w) 14 (cond (outOfOrder (p .waiting) w) 15 0)
+  pub order-15 : reservedSet w ≡ false → outOfOrder (p .waiting) w ≡ true → wordOf p w ≡ refused 15
+  unfolding wordOf
+  order-15 r o = rw (r, o)
 
--- a cond under a function
-cond-ap : {A B : Type 0} (f : A → B) (b : Bool) (x y : A) → f (cond b x y) ≡ cond b (f x) (f y)
-cond-ap f true x y = refl
-cond-ap f false x y = refl
+  pub in-order : reservedSet w ≡ false → outOfOrder (p .waiting) w ≡ false → wordOf p w ≡ acceptedOf (p .upper) w
+  unfolding wordOf
+  in-order r o = rw (r, o)
 
-same : {A : Type 0} (b : Bool) (x : A) → cond b x x ≡ x
-same true x = refl
-same false x = refl
-
+-- ---- each number has its condition
 -- a word in order is not refused
-pub accepted-number : (upper w : ℕ) → numberOf (acceptedOf upper w .taken) ≡ 0
-unfolding acceptedOf
-accepted-number upper w = by (eqb (kindOf w) 0) (eqb (kindOf w) 1) (eqb (kindOf w) 2)
-  where
-    by : (a b c : Bool) {e f g : Event} {u : ℕ} → numberOf (cond a (happened e) (cond b (happened f) (cond c (kept u) (happened g))) .taken) ≡ 0
-    by true b c = refl
-    by false true c = refl
-    by false false true = refl
-    by false false false = refl
+given-not : (a b c : Bool) (e f g : Event) (u n : ℕ) → cond a (happened e) (cond b (happened f) (cond c (kept u) (happened g))) .taken ≡ Refused n → ⊥
+given-not true b c e f g u n h = let z : _≡_ {A = ℕ} 0 1 = cc in omega arith
+given-not false true c e f g u n h = let z : _≡_ {A = ℕ} 0 1 = cc in omega arith
+given-not false false true e f g u n h = let z : _≡_ {A = ℕ} 0 1 = cc in omega arith
+given-not false false false e f g u n h = let z : _≡_ {A = ℕ} 0 1 = cc in omega arith
 
--- THE REFUSALS of a word
-pub word-number : (p : Pending) (w : ℕ) → numberOf (wordOf p w .taken) ≡ wordNumber p w
-unfolding wordOf wordNumber
-word-number p w = by (reservedSet w) (outOfOrder (p .waiting) w)
-  where
-    by : (a b : Bool) → numberOf (cond a (refused 14) (cond b (refused 15) (acceptedOf (p .upper) w)) .taken) ≡ cond a 14 (cond b 15 0)
-    by true b = refl
-    by false true = refl
-    by false false = accepted-number (p .upper) w
+pub accepted-not-refused : (upper w n : ℕ) → acceptedOf upper w .taken ≡ Refused n → ⊥
+unfolding acceptedOf
+accepted-not-refused upper w n h = given-not (eqb (kindOf w) 0) (eqb (kindOf w) 1) (eqb (kindOf w) 2) _ _ _ _ n h
+
+-- why a word is refused with n: 14 with a reserved bit set; 15 with none set, and out of order
+pub Reason : Pending → ℕ → ℕ → Type 0
+Reason p w n = ((n ≡ 14) × (reservedSet w ≡ true)) ⊎ ((n ≡ 15) × (reservedSet w ≡ false) × (outOfOrder (p .waiting) w ≡ true))
+
+which : (r o : Bool) (s : Step) (n : ℕ) → (s .taken ≡ Refused n → ⊥) → cond r (refused 14) (cond o (refused 15) s) .taken ≡ Refused n
+    → ((n ≡ 14) × (r ≡ true)) ⊎ ((n ≡ 15) × (r ≡ false) × (o ≡ true))
+which true o s n sure h = inl ((cc), refl)
+which false true s n sure h = inr ((cc), refl, refl)
+which false false s n sure h = absurd (sure h)
+
+pub word-reason : (p : Pending) (w n : ℕ) → wordOf p w .taken ≡ Refused n → Reason p w n
+unfolding wordOf Reason
+word-reason p w n h = which (reservedSet w) (outOfOrder (p .waiting) w) (acceptedOf (p .upper) w) n (accepted-not-refused (p .upper) w n) h
+
+-- ---- the end
+pub end-16 : (p : Pending) (left : ℕ) → eqb left 0 ≡ false → endOf p left ≡ 16
+unfolding endOf
+end-16 p left h = rw h
+
+pub end-15 : (p : Pending) → p .waiting ≡ true → endOf p 0 ≡ 15
+unfolding endOf
+end-15 p h = rw h
+
+pub end-0 : (p : Pending) → p .waiting ≡ false → endOf p 0 ≡ 0
+unfolding endOf
+end-0 p h = rw h
+
+-- ---- what a word of each kind gives
+module _ (p : Pending) (w : ℕ) where
+  pub tick-word : p .waiting ≡ false → kindOf w ≡ 0 → bitsOf 29 16 w ≡ 0 → wordOf p w ≡ happened (Tick (msOf w))
+  unfolding wordOf reservedSet acceptedOf
+  tick-word h k r = rw (k, r, h)
+
+  pub levels-word : p .waiting ≡ false → kindOf w ≡ 1 → bitsOf 29 3 w ≡ 0 → wordOf p w ≡ happened (Levels (levelsOf w))
+  unfolding wordOf reservedSet acceptedOf
+  levels-word h k r = rw (k, r, h)
+
+  pub upper-word : p .waiting ≡ false → kindOf w ≡ 2 → bitsOf 29 16 w ≡ 0 → wordOf p w ≡ kept (halfOf w)
+  unfolding wordOf reservedSet acceptedOf
+  upper-word h k r = rw (k, r, h)
+
+  pub lower-word : p .waiting ≡ true → kindOf w ≡ 3 → bitsOf 29 16 w ≡ 0 → wordOf p w ≡ happened (Telegram (telegramOf (p .upper) (halfOf w)))
+  unfolding wordOf reservedSet acceptedOf
+  lower-word h k r = rw (k, r, h)
