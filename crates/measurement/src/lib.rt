@@ -8,7 +8,7 @@ ghost use lib.Signed.{leZ};
 ghost use Rattle.integers.specs.Int.{Within};
 ghost use Rattle.integers.specs.Fraction.{whole, nearest};
 ghost use Rattle.measurement.specs.Curve.{highestOf, lineValue, pointsFrom, fourQuadrants, oneQuadrant, linearizedOf};
-ghost use Rattle.measurement.specs.Measure.{turnedOf, distanceOf, scaledOf, judgedOf, measuredOf};
+ghost use Rattle.measurement.specs.Measure.{errorNumber, turnedOf, distanceOf, scaledOf, judgedOf, measuredOf};
 ghost use Rattle.measurement.specs.Search.{OnLine, Usable};
 ghost use Rattle.measurement.specs.Range.{Linearizable, Sound};
 
@@ -22,6 +22,18 @@ pub enum Error {
     BelowRange,
     // The telegram's error bit stands at its error level.
     ErrorBit,
+}
+
+// The number of an error, 0 for none.
+pub fn error_number(e: Error) -> u32
+    ensures { λ r. ⌜ r ≡ errorNumber e ⌝ }
+{
+    match e {
+        Error::None => 0,
+        Error::AboveRange => 1,
+        Error::BelowRange => 2,
+        Error::ErrorBit => 3,
+    }
 }
 
 // The result of a reading, 0 under an error.

@@ -1,0 +1,46 @@
+-- `reading::place` meets its contract: the position is below M, so direction turns it within M.
+use borrow.Author.Needs.{needs}
+use Prim.Native.Nat.{_≤_, _^_, _<_}
+use native.Mathlib.Omega.{arith}
+use Rattle.settings.specs.Settings.{layoutOf}
+use Rattle.settings.specs.SettingsLaws.{layout-sound}
+use Rattle.ssi.specs.SoundLaws.{position-lt}
+use Rattle.ssi.specs.Telegram.{widthOf, positionOf}
+use Rattle.reading.specs.Reading.{placeOf}
+use Rattle.reading.proofs.place.Statement.{statement}
+use Rattle.reading.proofs.place.Tie as tie
+
+layout-requires : tie.Need-layout-requires
+layout-requires c κs = search needs
+
+position-requires : tie.Need-position-requires
+position-requires c κs = rw (c .layout .ensures) (layout-sound (c .before .pre))
+
+number-requires : tie.Need-number-requires
+number-requires c κs = search needs
+
+width-requires : tie.Need-width-requires
+width-requires c κs = rw (c .before .before .layout .ensures) (layout-sound (c .before .before .before .pre))
+
+turned-requires : tie.Need-turned-requires
+turned-requires c κs = let b = c .before .before in
+    let s = layout-sound (b .before .before .pre) in
+    let t = b .before .before .args .t .now in
+    rw (c .width .ensures, b .position .ensures, b .before .layout .ensures)
+    (omega (arith, s .from-one, s .low-high, s .high-resolution, s .to-32), position-lt (layoutOf t) (b .before .before .args .telegram))
+
+returns : tie.Need-returns
+unfolding placeOf
+returns c = let b = c .before .before .before in
+    rw (c .turned .ensures, c .before .before .number .ensures, c .before .width .ensures, b .position .ensures, b .before .layout .ensures)
+
+pub place-spec : {M : Type 1} → statement M
+place-spec =
+    tie.close
+    (tie.spec
+    layout-requires
+    position-requires
+    number-requires
+    width-requires
+    turned-requires
+    returns)
