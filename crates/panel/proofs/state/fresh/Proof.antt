@@ -1,0 +1,15 @@
+-- `panel::state::fresh` meets its contract: four times the fresh switch.
+use borrow.Author.Needs.{needs}
+use Rattle.panel.specs.State.{freshOf}
+use Rattle.panel.proofs.state.fresh.Statement.{statement}
+use Rattle.panel.proofs.state.fresh.Tie as tie
+
+fresh-requires : tie.Need-fresh-requires
+fresh-requires c κs = search needs
+
+returns : tie.Need-returns
+unfolding freshOf
+returns c = rw (c .fresh .ensures)
+
+pub fresh-spec : {M : Type 1} → statement M
+fresh-spec = tie.close (tie.spec fresh-requires returns)

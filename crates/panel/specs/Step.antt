@@ -1,0 +1,73 @@
+-- A step: an event and a state give the answer, with the new state in it; a refused event changes nothing.
+-- Paper 01, "Events and inputs", "Switching" and "Where each check sits", event. Assumes nothing.
+use mathlib.Core.Bool.{Bool, cond, _&&_, _||_}
+use mathlib.Core.List.{List}
+use Prim.Native.Nat.{ℕ}
+use lib.Dec.{eqb, leb}
+use lib.IntN.{ℤ}
+use Rattle.events.specs.declared.Event.{Event}
+use Rattle.events.specs.declared.Event.the-variants.{Telegram, Levels, Tick}
+use Rattle.parameters.specs.Slots.{action, config}
+use Rattle.reading.specs.Reading.{acceptsOf}
+use Rattle.settings.specs.Settings.{preselectionsOf}
+use Rattle.switching.specs.Outputs.{outputsOf}
+use Rattle.switching.specs.Switching.{allSwitched, allTicked}
+use Rattle.panel.specs.declared.commands.Acted.{Acted}
+use Rattle.panel.specs.declared.state.State.{State}
+use Rattle.panel.specs.declared.Answer.{Answer}
+use Rattle.panel.specs.State.{withLevels, withTelegram, withShown, withSwitches}
+use Rattle.panel.specs.Commands.{rereadOf, highAt, commandsOf}
+
+-- ---- the answer
+
+-- "carries the new state, the result, the shown value, error, output levels, drive and a note"
+unfoldable pub answerOf : State → ℕ → Answer
+answerOf s note =
+    record {
+      state = s;
+      result = s .reading .result;
+      shown = s .shown;
+      error = s .reading .error;
+      outputs = outputsOf (preselectionsOf (s .table)) (s .switches);
+      drive = s .reading .drive;
+      note = note;
+    }
+
+-- ---- after the commands
+
+-- Switching, "After each telegram or levels event, once a telegram was accepted"
+unfoldable pub switchedOf : State → State
+switchedOf s = cond (s .seen) (withSwitches s (allSwitched (preselectionsOf (s .table)) (s .reading .result) (s .switches))) s
+
+-- "Freeze lasts while, after the event, any input set to it is low (config 0) or high (config 1)"
+unfoldable pub freezes : List ℤ → ℕ → ℕ → Bool
+freezes t l i = eqb (action t i) 2 && cond (highAt l i) (eqb (config t i) 1) (eqb (config t i) 0)
+
+unfoldable pub frozen : List ℤ → ℕ → Bool
+frozen t l = freezes t l 0 || (freezes t l 1 || freezes t l 2)
+
+-- "It holds the shown value as it was before the event and nothing else. Without freeze, shown equals result"
+unfoldable pub displayedOf : State → State
+displayedOf s = withShown s (cond (frozen (s .table) (s .levels)) (s .shown) (s .reading .result))
+
+abbrev pub settledOf : State → State
+settledOf s = displayedOf (switchedOf s)
+
+-- ---- the three events
+
+-- 11: a telegram bit above N is set
+unfoldable pub telegramOf : State → ℕ → Answer
+telegramOf s w = cond (acceptsOf (s .table) w) (answerOf (settledOf (rereadOf (withTelegram s w))) 0) (answerOf s 11)
+
+-- 10: levels above 7
+unfoldable pub levelsOf : State → ℕ → Answer
+levelsOf s l = cond (leb l 7) (answerOf (settledOf (withLevels (commandsOf s l .state) l)) (commandsOf s l .note)) (answerOf s 10)
+
+-- "Ticks change pulses", and through them signals and outputs
+unfoldable pub tickOf : State → ℕ → Answer
+tickOf s ms = answerOf (withSwitches s (allTicked ms (s .switches))) 0
+
+unfoldable pub stepOf : State → Event → Answer
+stepOf s (Telegram w) = telegramOf s w
+stepOf s (Levels l) = levelsOf s l
+stepOf s (Tick ms) = tickOf s ms
