@@ -1,6 +1,6 @@
 -- Bits high..low are the word shifted down by low, and the high - low + 1 lowest bits of that, kept by a mask.
 use mathlib.Core.Path.{_≡_, ap, _∙_}
-use Prim.Native.Nat.{ℕ, _+_, _-_, _/_, _%_, _^_, _≤_}
+use Prim.Native.Nat.{ℕ, _+_, _-_, _/_, _^_, _≤_}
 use native.Mathlib.Omega.{arith}
 use lib.Bits.{bitAnd, and-mask}
 use lib.Pow.{high, ones-lt, ones-split}

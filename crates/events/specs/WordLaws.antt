@@ -1,6 +1,6 @@
 -- Each number of the log in its own condition and in no other: 14, 15 and 16; and what a word of each kind gives.
 use mathlib.Core.Path.{_≡_, refl}
-use mathlib.Core.Bool.{Bool, true, false, cond, not}
+use mathlib.Core.Bool.{Bool, true, false, cond}
 use mathlib.Core.Logic.{_⊎_, inl, inr}
 use Prim.Native.Nat.{ℕ}
 use native.Mathlib.Omega.{arith}
@@ -8,8 +8,7 @@ use lib.Dec.{eqb}
 use Rattle.events.specs.declared.Event.{Event}
 use Rattle.events.specs.declared.Event.the-variants.{Telegram, Levels, Tick}
 use Rattle.events.specs.declared.Pending.{Pending}
-use Rattle.events.specs.declared.Taken.{Taken}
-use Rattle.events.specs.declared.Taken.the-variants.{Happened, Nothing, Refused}
+use Rattle.events.specs.declared.Taken.the-variants.{Refused}
 use Rattle.events.specs.declared.Step.{Step}
 use Rattle.events.specs.Words.{bitsOf, kindOf, msOf, levelsOf, halfOf, telegramOf, reservedSet}
 use Rattle.events.specs.Log.{happened, kept, refused, outOfOrder, acceptedOf, wordOf, endOf}
@@ -41,7 +40,7 @@ unfolding acceptedOf
 accepted-not-refused upper w n h = given-not (eqb (kindOf w) 0) (eqb (kindOf w) 1) (eqb (kindOf w) 2) _ _ _ _ n h
 
 -- why a word is refused with n: 14 with a reserved bit set; 15 with none set, and out of order
-pub Reason : Pending → ℕ → ℕ → Type 0
+abbrev pub Reason : Pending → ℕ → ℕ → Type 0
 Reason p w n = ((n ≡ 14) × (reservedSet w ≡ true)) ⊎ ((n ≡ 15) × (reservedSet w ≡ false) × (outOfOrder (p .waiting) w ≡ true))
 
 which : (r o : Bool) (s : Step) (n : ℕ) → (s .taken ≡ Refused n → ⊥) → cond r (refused 14) (cond o (refused 15) s) .taken ≡ Refused n
@@ -51,7 +50,7 @@ which false true s n sure h = inr ((cc), refl, refl)
 which false false s n sure h = absurd (sure h)
 
 pub word-reason : (p : Pending) (w n : ℕ) → wordOf p w .taken ≡ Refused n → Reason p w n
-unfolding wordOf Reason
+unfolding wordOf
 word-reason p w n h = which (reservedSet w) (outOfOrder (p .waiting) w) (acceptedOf (p .upper) w) n (accepted-not-refused (p .upper) w n) h
 
 -- ---- the end

@@ -2,7 +2,7 @@
 use mathlib.Core.Path.{_≡_, refl, sym, ap, ap₂, _∙_}
 use mathlib.Core.Bool.{Bool, true, false, cond, not}
 use mathlib.Core.List.{List, [], _∷_, _++_}
-use Prim.Native.Nat.{ℕ, _+_, _*_, _/_, _%_, _^_, _≤_, _<_}
+use Prim.Native.Nat.{ℕ, _+_, _/_, _%_, _^_, _<_}
 use native.Mathlib.Omega.{arith}
 use borrow.Author.Tests.{eqb-true, eqb-false, not-false}
 use lib.Dec.{eqb}
@@ -11,8 +11,8 @@ use Rattle.events.specs.declared.Event.the-variants.{Telegram, Levels, T
 use Rattle.events.specs.declared.Pending.{Pending}
 use Rattle.events.specs.declared.Step.{Step}
 use Rattle.events.specs.Words.{bitsOf, kindOf, msOf, levelsOf, halfOf, telegramOf, reservedOf, reservedSet}
-use Rattle.events.specs.Log.{freshPending, happened, kept, refused, outOfOrder, acceptedOf, wordOf, endOf, Log, before, logFrom, logOf}
-use Rattle.events.specs.LogLaws.{ends, behind}
+use Rattle.events.specs.Log.{freshPending, happened, kept, refused, outOfOrder, acceptedOf, wordOf, endOf, before, logFrom, logOf}
+use Rattle.events.specs.LogLaws.{behind}
 use Rattle.events.specs.WordLaws.{tick-word, levels-word, upper-word, lower-word}
 use Rattle.events.specs.Written.{wordWith, wordsOf, written, Carried, AllCarried, AllWords}
 

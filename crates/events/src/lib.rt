@@ -3,7 +3,6 @@
 mod parts;
 
 ghost use mathlib.Core.Path.{_≡_};
-ghost use mathlib.Core.Bool.{Bool};
 ghost use Rattle.events.specs.Words.{wordAt};
 ghost use Rattle.events.specs.Log.{freshPending, kept, refused, happened, acceptedOf, outOfOrder, wordOf, endOf};
 

@@ -49,12 +49,13 @@ keep-requires c κs = search needs
 returns-3 : tie.Need-returns-3
 unfolding acceptedOf
 returns-3 c = let k = c .before .before .before .before .before .kind .ensures in
-    rw
-    (c .keep .ensures,
-     c .before .half .ensures,
-     is-not k (c .before .before .before .before .if1 .left),
-     is-not k (c .before .before .before .if2 .left),
-     is k (c .before .before .if3 .taken))
+    rw (
+      c .keep .ensures,
+      c .before .half .ensures,
+      is-not k (c .before .before .before .before .if1 .left),
+      is-not k (c .before .before .before .if2 .left),
+      is k (c .before .before .if3 .taken),
+    )
 
 half-requires-2 : tie.Need-half-requires-2
 half-requires-2 c κs = search needs
@@ -68,13 +69,14 @@ give-requires-3 c κs = search needs
 returns-4 : tie.Need-returns-4
 unfolding acceptedOf
 returns-4 c = let k = c .before .before .before .before .before .before .kind .ensures in
-    rw
-    (c .give3 .ensures,
-     c .before .telegram .ensures,
-     c .before .before .half2 .ensures,
-     is-not k (c .before .before .before .before .before .if1 .left),
-     is-not k (c .before .before .before .before .if2 .left),
-     is-not k (c .before .before .before .if3 .left))
+    rw (
+      c .give3 .ensures,
+      c .before .telegram .ensures,
+      c .before .before .half2 .ensures,
+      is-not k (c .before .before .before .before .before .if1 .left),
+      is-not k (c .before .before .before .before .if2 .left),
+      is-not k (c .before .before .before .if3 .left),
+    )
 
 pub accept-spec : {M : Type 1} → statement M
 accept-spec =

@@ -23,20 +23,22 @@ refuse-requires-2 c κs = search needs
 
 returns-2 : tie.Need-returns-2
 unfolding wordOf
-returns-2 c = rw
-    (c .refuse2 .ensures,
-     sym (c .before .before .before .before .reserved-set .ensures) ∙ c .before .before .before .if1 .left,
-     sym (c .before .before .out-of-order .ensures) ∙ c .before .if2 .taken)
+returns-2 c = rw (
+  c .refuse2 .ensures,
+  sym (c .before .before .before .before .reserved-set .ensures) ∙ c .before .before .before .if1 .left,
+  sym (c .before .before .out-of-order .ensures) ∙ c .before .if2 .taken,
+)
 
 accept-requires : tie.Need-accept-requires
 accept-requires c κs = search needs
 
 returns-3 : tie.Need-returns-3
 unfolding wordOf
-returns-3 c = rw
-    (c .accept .ensures,
-     sym (c .before .before .before .before .reserved-set .ensures) ∙ c .before .before .before .if1 .left,
-     sym (c .before .before .out-of-order .ensures) ∙ c .before .if2 .left)
+returns-3 c = rw (
+  c .accept .ensures,
+  sym (c .before .before .before .before .reserved-set .ensures) ∙ c .before .before .before .if1 .left,
+  sym (c .before .before .out-of-order .ensures) ∙ c .before .if2 .left,
+)
 
 pub word-spec : {M : Type 1} → statement M
 word-spec =
