@@ -8,26 +8,26 @@ use native.Mathlib.Numerals.{add-one}
 use lib.ListN.{length, getD, take, drop, set, length-append, length-set, length-drop, drop-of-length-le}
 use lib.Seq.{drop-cons, drop-set-lt, getD-set-same, take-all}
 use borrow.Rule.Slice.PartMut.{putMid}
-use Rattle.decimal.specs.Decimal.{digit, minus, digitsOf, valueFrom}
+use Rattle.decimal.specs.Decimal.{largest, digit, minus, digitsOf, valueFrom}
 use Rattle.decimal.specs.Bytes.{isDigit, allDigits}
 use Rattle.decimal.specs.DigitLaws.{digits-small, digits-more, both-true}
 
 -- ---- writing
 
 -- n / 10 has one digit less
-pub digits-count : (n : ℕ) → 10 ≤ n → length (digitsOf n) ≡ length (digitsOf (n / 10)) + 1
-digits-count n h = rw (digits-more n h, length-append)
+pub digits-count : (n : ℕ) → 10 ≤ n → n ≤ largest → length (digitsOf n) ≡ length (digitsOf (n / 10)) + 1
+digits-count n h i = rw (digits-more n h i, length-append)
 
 -- the list from a store on
 drop-set : (out : List ℕ) (i b : ℕ) → i < length out → drop i (set out i b) ≡ b ∷ drop (suc i) out
 drop-set out i b h = rw (drop-cons (set out i b) i 0 (rw length-set h), getD-set-same out i b 0 h, drop-set-lt (suc i) out i b (omega arith))
 
 -- the last digit is written, and those of n / 10 are left
-pub spell-more : (out : List ℕ) (n i : ℕ) → 10 ≤ n → i ≡ length (digitsOf n) → i ≤ length out → digitsOf (n / 10) ++ drop (i - 1) (set out (i - 1) (digit (n % 10))) ≡ digitsOf n ++ drop i out
-spell-more out n i h e l =
-    let m = digits-count n h in
+pub spell-more : (out : List ℕ) (n i : ℕ) → 10 ≤ n → n ≤ largest → i ≡ length (digitsOf n) → i ≤ length out → digitsOf (n / 10) ++ drop (i - 1) (set out (i - 1) (digit (n % 10))) ≡ digitsOf n ++ drop i out
+spell-more out n i h b e l =
+    let m = digits-count n h b in
     let p : suc (i - 1) ≡ i = omega arith in
-    rw (drop-set out (i - 1) (digit (n % 10)) (omega arith), p, digits-more n h, append-assoc)
+    rw (drop-set out (i - 1) (digit (n % 10)) (omega arith), p, digits-more n h b, append-assoc)
 
 -- the first digit is written, and none is left
 pub spell-last : (out : List ℕ) (n i : ℕ) → n < 10 → i ≡ length (digitsOf n) → i ≤ length out → set out 0 (digit n) ≡ digitsOf n ++ drop i out
@@ -77,9 +77,3 @@ unfolding allDigits
 all-at [] i e h = absurd (omega arith)
 all-at (b ∷ s) zero e h = both-true (isDigit b) (allDigits s) e .0
 all-at (b ∷ s) (suc i) e h = all-at s i (both-true (isDigit b) (allDigits s) e .1) (omega arith)
-
--- what digits stand for only grows
-pub value-grows : (v : ℕ) (s : List ℕ) → v ≤ valueFrom v s
-unfolding valueFrom
-value-grows v [] = omega arith
-value-grows v (b ∷ s) = omega (arith, value-grows (v * 10 + (b - 48)) s)

@@ -10,7 +10,7 @@ use lib.ListN.{length, getD}
 use borrow.Author.Tests.{ltb-false, le-ltb, eqb-true, eqb-false, eq-eqb, ne-eqb}
 use Rattle.decimal.specs.Decimal.{largest, digitsOf, valueFrom}
 use Rattle.decimal.specs.Bytes.{isDigit, allDigits, isNatural}
-use Rattle.decimal.specs.DigitLaws.{digits-some, digits-small, digits-below, digits-all, digits-lead, digits-value, value-below, all-head, all-tail, digit-from, digit-to}
+use Rattle.decimal.specs.DigitLaws.{digits-some, digits-small, digits-few, digits-all, digits-lead, digits-value, value-below, all-head, all-tail, digit-from, digit-to}
 
 -- what a text that passes is
 pub record Natural (s : List ℕ) : Type 0 where
@@ -61,44 +61,44 @@ digits-natural : (n : ℕ) → n ≤ largest → Natural (digitsOf n)
 digits-natural n h =
     record {
       some = digits-some n;
-      few = digits-below 17 n (omega arith);
-      all = digits-all n;
-      lead = led n;
+      few = digits-few n;
+      all = digits-all n h;
+      lead = led n h;
     }
   where
-    led : (n : ℕ) → getD (digitsOf n) 0 0 ≡ 48 → length (digitsOf n) ≡ 1
-    led zero e = rw (digits-small 0 (lit< tt))
-    led (suc n) e = absurd (omega (arith, digits-lead (suc n) (omega arith)))
+    led : (n : ℕ) → n ≤ largest → getD (digitsOf n) 0 0 ≡ 48 → length (digitsOf n) ≡ 1
+    led zero h e = rw (digits-small 0 (lit< tt))
+    led (suc n) h e = absurd (omega (arith, digits-lead (suc n) h (omega arith)))
 
 pub digits-pass : (n : ℕ) → n ≤ largest → isNatural (digitsOf n) ≡ true
 digits-pass n h = natural-is (digitsOf n) (digits-natural n h)
 
 -- ---- what passes is the digits of what it stands for, which is in range
-lead-digits : (s : List ℕ) → Natural s → digitsOf (valueFrom 0 s) ≡ s
-unfolding valueFrom allDigits
-lead-digits [] n = absurd (omega (arith, n .some))
-lead-digits (b ∷ s) n = tested (eqb b 48) refl s (n .lead) (all-tail b s (n .all))
-  where
-    d : isDigit b ≡ true
-    d = all-head b s (n .all)
-
-    tested : (t : Bool) → eqb b 48 ≡ t → (s : List ℕ) → (b ≡ 48 → suc (length s) ≡ 1) → allDigits s ≡ true → digitsOf (valueFrom (0 * 10 + (b - 48)) s) ≡ b ∷ s
-    tested true e [] l a =
-        let z = eqb-true b 48 e in
-        rw (digits-small (0 * 10 + (b - 48)) (omega arith)) (ap (λ (x : ℕ). x ∷ []) (omega arith))
-    tested true e (c ∷ s) l a = absurd (omega (arith, l (eqb-true b 48 e)))
-    tested false e s l a =
-        let z = eqb-false b 48 e in
-        let f = digit-from b d in
-        let g = digit-to b d in
-        digits-value (0 * 10 + (b - 48)) s (omega arith) a
-        ∙ rw (digits-small (0 * 10 + (b - 48)) (omega arith)) (ap (λ (x : ℕ). x ∷ s) (omega arith))
-
-pub pass-digits : (s : List ℕ) → isNatural s ≡ true → digitsOf (valueFrom 0 s) ≡ s
-pass-digits s e = lead-digits s (natural-parts s e)
-
 pub pass-range : (s : List ℕ) → isNatural s ≡ true → valueFrom 0 s ≤ largest
 pass-range s e =
     let n = natural-parts s e in
     let p : 10 ^ length s ≤ 10 ^ 18 = pow-le-pow-right (omega arith) (n .few) in
     omega (arith, value-below 0 s (n .all))
+
+lead-digits : (s : List ℕ) → Natural s → valueFrom 0 s ≤ largest → digitsOf (valueFrom 0 s) ≡ s
+unfolding valueFrom allDigits
+lead-digits [] n i = absurd (omega (arith, n .some))
+lead-digits (b ∷ s) n i = tested (eqb b 48) refl s (n .lead) (all-tail b s (n .all)) i
+  where
+    d : isDigit b ≡ true
+    d = all-head b s (n .all)
+
+    tested : (t : Bool) → eqb b 48 ≡ t → (s : List ℕ) → (b ≡ 48 → suc (length s) ≡ 1) → allDigits s ≡ true → valueFrom (0 * 10 + (b - 48)) s ≤ largest → digitsOf (valueFrom (0 * 10 + (b - 48)) s) ≡ b ∷ s
+    tested true e [] l a i =
+        let z = eqb-true b 48 e in
+        rw (digits-small (0 * 10 + (b - 48)) (omega arith)) (ap (λ (x : ℕ). x ∷ []) (omega arith))
+    tested true e (c ∷ s) l a i = absurd (omega (arith, l (eqb-true b 48 e)))
+    tested false e s l a i =
+        let z = eqb-false b 48 e in
+        let f = digit-from b d in
+        let g = digit-to b d in
+        digits-value (0 * 10 + (b - 48)) s (omega arith) i a
+        ∙ rw (digits-small (0 * 10 + (b - 48)) (omega arith)) (ap (λ (x : ℕ). x ∷ s) (omega arith))
+
+pub pass-digits : (s : List ℕ) → isNatural s ≡ true → digitsOf (valueFrom 0 s) ≡ s
+pass-digits s e = lead-digits s (natural-parts s e) (pass-range s e)

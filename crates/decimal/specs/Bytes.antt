@@ -4,10 +4,11 @@ use mathlib.Core.Bool.{Bool, true, false, cond, _&&_}
 use mathlib.Core.List.{List, [], _∷_}
 use lib.Dec.{ltb, leb, eqb}
 use lib.ListN.{length, getD}
+use Rattle.decimal.specs.Decimal.{mostDigits, digit}
 
 -- a byte is a digit
 abbrev pub isDigit : ℕ → Bool
-isDigit b = leb 48 b && leb b 57
+isDigit b = leb (digit 0) b && leb b (digit 9)
 
 -- every byte is a digit
 unfoldable pub allDigits : List ℕ → Bool
@@ -18,5 +19,5 @@ allDigits (b ∷ s) = isDigit b && allDigits s
 unfoldable pub isNatural : List ℕ → Bool
 isNatural s =
     cond (eqb (length s) 0) false
-    (cond (ltb 18 (length s)) false
-    (cond (eqb (getD s 0 0) 48) (eqb (length s) 1) (allDigits s)))
+    (cond (ltb mostDigits (length s)) false
+    (cond (eqb (getD s 0 0) (digit 0)) (eqb (length s) 1) (allDigits s)))

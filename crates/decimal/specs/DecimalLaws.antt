@@ -13,19 +13,19 @@ use Rattle.decimal.specs.declared.Parsed.{Parsed}
 use Rattle.decimal.specs.declared.Parsed.the-variants.{Number, Malformed}
 use Rattle.decimal.specs.Decimal.{largest, minus, digitsOf, textOf, valueFrom, numberIn, sameText, parsedOf}
 use Rattle.decimal.specs.Bytes.{allDigits}
-use Rattle.decimal.specs.DigitLaws.{digits-some, digits-below, digits-all, value-digits, all-head, digit-from, both-true, and-true}
+use Rattle.decimal.specs.DigitLaws.{digits-some, digits-few, digits-all, value-digits, all-head, digit-from, both-true, and-true}
 
 -- ---- a text's length
 
-pub text-some : (z : ℤ) → 1 ≤ length (textOf z)
+pub text-not-empty : (z : ℤ) → 1 ≤ length (textOf z)
 unfolding textOf
-text-some (pos n) = digits-some n
-text-some (negsuc n) = omega (arith, digits-some (suc n))
+text-not-empty (pos n) = digits-some n
+text-not-empty (negsuc n) = omega (arith, digits-some (suc n))
 
-pub text-fits : (z : ℤ) → Within largest z → length (textOf z) ≤ 19
+pub text-at-most-19 : (z : ℤ) → length (textOf z) ≤ 19
 unfolding textOf
-text-fits (pos n) h = omega (arith, digits-below 17 n (omega (arith, h .above)))
-text-fits (negsuc n) h = omega (arith, digits-below 17 (suc n) (omega (arith, h .below)))
+text-at-most-19 (pos n) = omega (arith, digits-few n)
+text-at-most-19 (negsuc n) = omega (arith, digits-few (suc n))
 
 -- ---- a text by the number's parts
 
@@ -56,14 +56,14 @@ unfolding numberIn
 number-minus s = refl
 
 -- the number in a number's text is that number
-pub number-text : (z : ℤ) → numberIn (textOf z) ≡ z
+pub number-text : (z : ℤ) → Within largest z → numberIn (textOf z) ≡ z
 unfolding textOf
-number-text (pos n) = number-digits (digitsOf n) (digits-all n) ∙ ap pos (value-digits n)
-number-text (negsuc n) = number-minus (digitsOf (suc n)) ∙ ap (λ (v : ℕ). negℤ (pos v)) (value-digits (suc n))
+number-text (pos n) h = number-digits (digitsOf n) (digits-all n (h .above)) ∙ ap pos (value-digits n (h .above))
+number-text (negsuc n) h = number-minus (digitsOf (suc n)) ∙ ap (λ (v : ℕ). negℤ (pos v)) (value-digits (suc n) (h .below))
 
 -- two numbers with one text are one number
-pub text-only : (a b : ℤ) → textOf a ≡ textOf b → a ≡ b
-text-only a b e = sym (number-text a) ∙ ap numberIn e ∙ number-text b
+pub text-only : (a b : ℤ) → Within largest a → Within largest b → textOf a ≡ textOf b → a ≡ b
+text-only a b h i e = sym (number-text a h) ∙ ap numberIn e ∙ number-text b i
 
 -- ---- written and read
 
@@ -92,7 +92,7 @@ abs-within z h = record { above = omega (arith, abs-is z); below = omega (arith,
 -- what is written for z is read as z
 pub written-is-read : (z : ℤ) → Within largest z → parsedOf (textOf z) ≡ Number z
 unfolding parsedOf
-written-is-read z h = rw (number-text z, same-refl (textOf z), le-leb (natAbs z) largest (within-abs z h))
+written-is-read z h = rw (number-text z h, same-refl (textOf z), le-leb (natAbs z) largest (within-abs z h))
 
 -- only the text of z is read as z, and z has at most 18 digits
 pub read-is-written : (s : List ℕ) (z : ℤ) → parsedOf s ≡ Number z → (s ≡ textOf z) × Within largest z

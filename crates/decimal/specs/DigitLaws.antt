@@ -1,6 +1,6 @@
 -- Laws of digits. The digits of n by the recursion on n / 10, which every law follows.
 use Prim.Native.Nat.{ℕ, zero, suc, _+_, _-_, _*_, _/_, _%_, _^_, _≤_, _<_}
-use mathlib.Core.Path.{_≡_, refl, sym, _∙_}
+use mathlib.Core.Path.{_≡_, refl, sym, ap, _∙_}
 use mathlib.Core.Bool.{Bool, true, false, cond, _&&_, false≢true}
 use mathlib.Core.List.{List, [], _∷_, _++_, append-assoc, append-nil}
 use native.Mathlib.Omega.{arith}
@@ -8,7 +8,7 @@ use native.Mathlib.Nat.{div-lt-self, div-add-mod', mod-lt, mul-assoc, mul-le-mul
 use lib.Dec.{ltb, leb}
 use lib.ListN.{length, getD, length-append, List·getD-append}
 use borrow.Author.Tests.{ltb-true, ltb-false, lt-ltb, le-ltb, leb-true, le-leb}
-use Rattle.decimal.specs.Decimal.{digit, digitsIn, digitsOf, valueFrom}
+use Rattle.decimal.specs.Decimal.{largest, digit, digitsIn, digitsOf, valueFrom}
 use Rattle.decimal.specs.Bytes.{isDigit, allDigits}
 
 pub shorter : (n : ℕ) → 10 ≤ n → n / 10 < n
@@ -17,62 +17,74 @@ shorter n h = div-lt-self (omega arith) (omega arith)
 pub rest-small : (n : ℕ) → n % 10 < 10
 rest-small n = mod-lt n (omega arith)
 
--- ---- the digits of n, without a number of steps
+tenth-below : (k n : ℕ) → n < 10 ^ suc k → n / 10 < 10 ^ k
+tenth-below k n h = omega (arith, pow-suc 10 k, div-add-mod' n 10)
 
--- any two numbers of steps that are enough give the same digits
-steps-alike : (k j n : ℕ) → n ≤ k → n ≤ j → digitsIn k n ≡ digitsIn j n
+-- ---- the digits of n, without how many are enough
+
+-- any two numbers of digits that are enough give the same digits
+enough-alike : (k j n : ℕ) → n < 10 ^ suc k → n < 10 ^ suc j → digitsIn (suc k) n ≡ digitsIn (suc j) n
 unfolding digitsIn
-steps-alike zero zero n h i = refl
-steps-alike zero (suc j) n h i = rw (lt-ltb n 10 (omega arith))
-steps-alike (suc k) zero n h i = rw (lt-ltb n 10 (omega arith))
-steps-alike (suc k) (suc j) n h i = tested (ltb n 10) refl (steps-alike k j (n / 10))
-  where
-    tested : (t : Bool) → ltb n 10 ≡ t → (n / 10 ≤ k → n / 10 ≤ j → digitsIn k (n / 10) ≡ digitsIn j (n / 10)) → cond t (digit n ∷ []) (digitsIn k (n / 10) ++ (digit (n % 10) ∷ [])) ≡ cond t (digit n ∷ []) (digitsIn j (n / 10) ++ (digit (n % 10) ∷ []))
-    tested true e r = refl
-    tested false e r =
-        let l = shorter n (ltb-false n 10 e) in
-        rw (r (omega arith) (omega arith))
+enough-alike zero zero n h i = refl
+enough-alike zero (suc j) n h i = rw (lt-ltb n 10 (omega (arith, pow-suc 10 0)))
+enough-alike (suc k) zero n h i = rw (lt-ltb n 10 (omega (arith, pow-suc 10 0)))
+enough-alike (suc k) (suc j) n h i =
+    rw (enough-alike k j (n / 10) (tenth-below (suc k) n h) (tenth-below (suc j) n i))
 
 pub digits-small : (n : ℕ) → n < 10 → digitsOf n ≡ digit n ∷ []
 unfolding digitsOf digitsIn
-digits-small zero h = refl
-digits-small (suc n) h = rw (lt-ltb (suc n) 10 h)
+digits-small n h = rw (lt-ltb n 10 h)
 
-pub digits-more : (n : ℕ) → 10 ≤ n → digitsOf n ≡ digitsOf (n / 10) ++ (digit (n % 10) ∷ [])
-unfolding digitsOf digitsIn
-digits-more zero h = absurd (omega arith)
-digits-more (suc n) h =
-    let l = shorter (suc n) h in
-    rw (le-ltb (suc n) 10 h, steps-alike n (suc n / 10) (suc n / 10) (omega arith) (omega arith))
+more-in : (k n : ℕ) → 10 ≤ n → digitsIn (suc k) n ≡ digitsIn k (n / 10) ++ (digit (n % 10) ∷ [])
+unfolding digitsIn
+more-in k n h = rw (le-ltb n 10 h)
 
--- a property of every number: of those below ten, and of each other one where n / 10 has it
-pub by-tens : (Q : ℕ → Type 0) → ((n : ℕ) → n < 10 → Q n) → ((n : ℕ) → 10 ≤ n → Q (n / 10) → Q n) → (n : ℕ) → Q n
-by-tens Q small more n = go n n (omega arith)
+pub digits-more : (n : ℕ) → 10 ≤ n → n ≤ largest → digitsOf n ≡ digitsOf (n / 10) ++ (digit (n % 10) ∷ [])
+unfolding digitsOf
+digits-more n h i =
+    let l = tenth-below 17 n (omega arith) in
+    more-in 17 n h ∙ ap (λ (s : List ℕ). s ++ (digit (n % 10) ∷ [])) (enough-alike 16 17 (n / 10) l (omega arith))
+
+-- a property of every number of at most 18 digits: of those below ten, and of each other one where n / 10 has it
+pub by-tens : (Q : ℕ → Type 0) → ((n : ℕ) → n < 10 → Q n) → ((n : ℕ) → 10 ≤ n → n ≤ largest → Q (n / 10) → Q n) → (n : ℕ) → n ≤ largest → Q n
+by-tens Q small more n h = go n n (omega arith) h
   where
-    go : (k m : ℕ) → m ≤ k → Q m
-    go zero m h = small m (omega arith)
-    go (suc k) m h = tested (ltb m 10) refl (go k (m / 10))
+    go : (k m : ℕ) → m ≤ k → m ≤ largest → Q m
+    go zero m h i = small m (omega arith)
+    go (suc k) m h i = tested (ltb m 10) refl (go k (m / 10))
       where
-        tested : (t : Bool) → ltb m 10 ≡ t → (m / 10 ≤ k → Q (m / 10)) → Q m
+        tested : (t : Bool) → ltb m 10 ≡ t → (m / 10 ≤ k → m / 10 ≤ largest → Q (m / 10)) → Q m
         tested true e r = small m (ltb-true m 10 e)
         tested false e r =
             let l = shorter m (ltb-false m 10 e) in
-            more m (ltb-false m 10 e) (r (omega arith))
+            more m (ltb-false m 10 e) i (r (omega arith) (omega arith))
 
 -- ---- how many they are
 
-pub digits-some : (n : ℕ) → 1 ≤ length (digitsOf n)
-digits-some = by-tens (λ n. 1 ≤ length (digitsOf n)) (λ n h. rw (digits-small n h) (omega arith)) (λ n h q. rw (digits-more n h, length-append) (omega arith))
-
-pub digits-below : (k n : ℕ) → n < 10 ^ suc k → length (digitsOf n) ≤ suc k
-digits-below zero n h = rw (digits-small n (omega (arith, pow-suc 10 0))) (omega arith)
-digits-below (suc k) n h = tested (ltb n 10) refl (digits-below k (n / 10))
+some-in : (k n : ℕ) → 1 ≤ length (digitsIn (suc k) n)
+unfolding digitsIn
+some-in k n = tested (ltb n 10)
   where
-    tested : (t : Bool) → ltb n 10 ≡ t → (n / 10 < 10 ^ suc k → length (digitsOf (n / 10)) ≤ suc k) → length (digitsOf n) ≤ suc (suc k)
-    tested true e r = rw (digits-small n (ltb-true n 10 e)) (omega arith)
-    tested false e r =
-        let l = r (omega (arith, pow-suc 10 (suc k), div-add-mod' n 10)) in
-        rw (digits-more n (ltb-false n 10 e), length-append) (omega arith)
+    tested : (t : Bool) → 1 ≤ length (cond t (digit n ∷ []) (digitsIn k (n / 10) ++ (digit (n % 10) ∷ [])))
+    tested true = omega arith
+    tested false = rw length-append (omega arith)
+
+few-in : (k n : ℕ) → length (digitsIn k n) ≤ k
+unfolding digitsIn
+few-in zero n = omega arith
+few-in (suc k) n = tested (ltb n 10) (few-in k (n / 10))
+  where
+    tested : (t : Bool) → length (digitsIn k (n / 10)) ≤ k → length (cond t (digit n ∷ []) (digitsIn k (n / 10) ++ (digit (n % 10) ∷ []))) ≤ suc k
+    tested true l = omega arith
+    tested false l = rw length-append (omega arith)
+
+pub digits-some : (n : ℕ) → 1 ≤ length (digitsOf n)
+unfolding digitsOf
+digits-some n = some-in 17 n
+
+pub digits-few : (n : ℕ) → length (digitsOf n) ≤ 18
+unfolding digitsOf
+digits-few n = few-in 18 n
 
 -- ---- what they stand for
 
@@ -81,12 +93,12 @@ unfolding valueFrom
 value-append v [] t = refl
 value-append v (b ∷ s) t = value-append (v * 10 + (b - 48)) s t
 
-pub value-digits : (n : ℕ) → valueFrom 0 (digitsOf n) ≡ n
+pub value-digits : (n : ℕ) → n ≤ largest → valueFrom 0 (digitsOf n) ≡ n
 unfolding valueFrom
 value-digits =
     by-tens (λ n. valueFrom 0 (digitsOf n) ≡ n)
     (λ n h. rw (digits-small n h) (omega arith))
-    (λ n h q. rw (digits-more n h, value-append, q) (omega (arith, div-add-mod' n 10)))
+    (λ n h i q. rw (digits-more n h i, value-append, q) (omega (arith, div-add-mod' n 10)))
 
 -- ---- their bytes
 
@@ -120,37 +132,45 @@ unfolding allDigits
 all-append [] t e f = f
 all-append (b ∷ s) t e f = and-true (isDigit b) (allDigits (s ++ t)) (all-head b s e) (all-append s t (all-tail b s e) f)
 
-pub digits-all : (n : ℕ) → allDigits (digitsOf n) ≡ true
+pub digits-all : (n : ℕ) → n ≤ largest → allDigits (digitsOf n) ≡ true
 unfolding allDigits
 digits-all =
     by-tens (λ n. allDigits (digitsOf n) ≡ true)
     (λ n h. rw (digits-small n h, digit-is n h))
-    (λ n h q. rw (digits-more n h) (all-append (digitsOf (n / 10)) (digit (n % 10) ∷ []) q (rw (digit-is (n % 10) (rest-small n)))))
+    (λ n h i q. rw (digits-more n h i) (all-append (digitsOf (n / 10)) (digit (n % 10) ∷ []) q (rw (digit-is (n % 10) (rest-small n)))))
 
 -- the first digit of a number above 0 is not 0
-pub digits-lead : (n : ℕ) → 0 < n → 48 < getD (digitsOf n) 0 0
+pub digits-lead : (n : ℕ) → n ≤ largest → 0 < n → 48 < getD (digitsOf n) 0 0
 digits-lead =
     by-tens (λ n. 0 < n → 48 < getD (digitsOf n) 0 0)
     (λ n h p. rw (digits-small n h) (omega arith))
-    (λ n h q p. rw (digits-more n h, List·getD-append (digitsOf (n / 10)) (digit (n % 10) ∷ []) 0 0 (digits-some (n / 10))) (q (omega (arith, div-add-mod' n 10, rest-small n))))
+    (λ n h i q p. rw (digits-more n h i, List·getD-append (digitsOf (n / 10)) (digit (n % 10) ∷ []) 0 0 (digits-some (n / 10))) (q (omega (arith, div-add-mod' n 10, rest-small n))))
 
 -- ---- digits that are read are the digits of what they stand for
 
+-- what digits stand for only grows with each digit
+pub value-grows : (v : ℕ) (s : List ℕ) → v ≤ valueFrom v s
+unfolding valueFrom
+value-grows v [] = omega arith
+value-grows v (b ∷ s) = omega (arith, value-grows (v * 10 + (b - 48)) s)
+
 -- one digit more
-digits-next : (v b : ℕ) → 0 < v → isDigit b ≡ true → digitsOf (v * 10 + (b - 48)) ≡ digitsOf v ++ (b ∷ [])
-digits-next v b p e =
+digits-next : (v b : ℕ) → 0 < v → v * 10 + (b - 48) ≤ largest → isDigit b ≡ true → digitsOf (v * 10 + (b - 48)) ≡ digitsOf v ++ (b ∷ [])
+digits-next v b p i e =
     let l = digit-from b e in
     let m = digit-to b e in
     let n = v * 10 + (b - 48) in
     let q : n / 10 ≡ v = omega (arith, div-add-mod' n 10, rest-small n) in
     let r : digit (n % 10) ≡ b = omega (arith, div-add-mod' n 10, rest-small n) in
-    rw (digits-more n (omega arith), q, r)
+    rw (digits-more n (omega arith) i, q, r)
 
-pub digits-value : (v : ℕ) (s : List ℕ) → 0 < v → allDigits s ≡ true → digitsOf (valueFrom v s) ≡ digitsOf v ++ s
+pub digits-value : (v : ℕ) (s : List ℕ) → 0 < v → valueFrom v s ≤ largest → allDigits s ≡ true → digitsOf (valueFrom v s) ≡ digitsOf v ++ s
 unfolding valueFrom allDigits
-digits-value v [] p e = sym (append-nil (digitsOf v))
-digits-value v (b ∷ s) p e =
-    digits-value (v * 10 + (b - 48)) s (omega arith) (all-tail b s e) ∙ rw (digits-next v b p (all-head b s e), append-assoc)
+digits-value v [] p i e = sym (append-nil (digitsOf v))
+digits-value v (b ∷ s) p i e =
+    let n = v * 10 + (b - 48) in
+    digits-value n s (omega arith) i (all-tail b s e)
+    ∙ rw (digits-next v b p (omega (arith, value-grows n s)) (all-head b s e), append-assoc)
 
 -- k digits stand for a number below 10 ^ k
 pub value-below : (v : ℕ) (s : List ℕ) → allDigits s ≡ true → valueFrom v s < suc v * 10 ^ length s

@@ -4,3 +4,4 @@ pub mod DigitLaws
 pub mod ByteLaws
 pub mod DecimalLaws
 pub mod ParseLaws
+pub mod Cases

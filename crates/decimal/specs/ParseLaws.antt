@@ -12,10 +12,10 @@ use Rattle.decimal.specs.Decimal.{largest, minus, digitsOf, textOf, valu
 use Rattle.decimal.specs.Bytes.{isNatural}
 use Rattle.decimal.specs.DigitLaws.{digits-all, value-digits}
 use Rattle.decimal.specs.ByteLaws.{digits-pass, pass-digits, pass-range}
-use Rattle.decimal.specs.DecimalLaws.{text-some, digits-no-minus, written-is-read, others-malformed}
+use Rattle.decimal.specs.DecimalLaws.{text-not-empty, digits-no-minus, written-is-read, others-malformed}
 
 pub empty-malformed : (s : List ℕ) → length s ≡ 0 → parsedOf s ≡ Malformed
-empty-malformed s l = others-malformed s (λ z h e. omega (arith, text-some z, ap length e))
+empty-malformed s l = others-malformed s (λ z h e. omega (arith, text-not-empty z, ap length e))
 
 pub natural-read : (s : List ℕ) → isNatural s ≡ true → parsedOf s ≡ Number (pos (valueFrom 0 s))
 unfolding textOf
@@ -44,7 +44,7 @@ unfolding textOf
 negative-malformed s e = others-malformed (minus ∷ s) no
   where
     no : (z : ℤ) → Within largest z → minus ∷ s ≡ textOf z → ⊥
-    no (pos n) h q = digits-no-minus (digitsOf n) s (digits-all n) (sym q)
+    no (pos n) h q = digits-no-minus (digitsOf n) s (digits-all n (h .above)) (sym q)
     no (negsuc n) h q = not-digits s (suc n) e (h .below) (after-minus s (digitsOf (suc n)) q)
 
 pub minus-zero-malformed : (s : List ℕ) → valueFrom 0 s ≡ 0 → parsedOf (minus ∷ s) ≡ Malformed
@@ -52,8 +52,8 @@ unfolding textOf
 minus-zero-malformed s v = others-malformed (minus ∷ s) no
   where
     no : (z : ℤ) → Within largest z → minus ∷ s ≡ textOf z → ⊥
-    no (pos n) h q = digits-no-minus (digitsOf n) s (digits-all n) (sym q)
-    no (negsuc n) h q = omega (arith, v, ap (valueFrom 0) (after-minus s (digitsOf (suc n)) q), value-digits (suc n))
+    no (pos n) h q = digits-no-minus (digitsOf n) s (digits-all n (h .above)) (sym q)
+    no (negsuc n) h q = omega (arith, v, ap (valueFrom 0) (after-minus s (digitsOf (suc n)) q), value-digits (suc n) (h .below))
 
 pub negative-read : (s : List ℕ) (n : ℕ) → isNatural s ≡ true → valueFrom 0 s ≡ n → 0 < n → parsedOf (minus ∷ s) ≡ Number (pos 0 -ℤ pos n)
 unfolding textOf

@@ -33,17 +33,17 @@ fn places(n: u64) -> usize
 
 // Puts the k digits of n at the start of out, the last one first.
 fn spell(out: &mut [u8], n: u64, k: usize)
-    requires { ⌜ (k ≡ length (digitsOf n)) × (k ≤ length (now out)) ⌝ }
+    requires { ⌜ (n ≤ largest) × ((k ≡ length (digitsOf n)) × (k ≤ length (now out))) ⌝ }
     ensures { λ _. ⌜ now (out .exit) ≡ digitsOf n ++ drop k (now (out .entry)) ⌝ }
 {
     let mut i = k;
     let mut rest = n;
     while rest >= 10 {
         i -= 1;
-        out[i] = 48 + (rest % 10) as u8;
+        out[i] = b'0' + (rest % 10) as u8;
         rest = rest / 10;
     }
-    out[0] = 48 + rest as u8;
+    out[0] = b'0' + rest as u8;
 }
 
 // Puts the digits of n at the start of out, and says how many they are.
@@ -63,7 +63,7 @@ pub fn write(out: &mut [u8], z: i64) -> usize
 {
     if z < 0 {
         let n = (0 - z) as u64;
-        out[0] = 45;
+        out[0] = b'-';
         let k = write_digits(&mut out[1..], n);
         return k + 1;
     }
@@ -78,10 +78,10 @@ fn digits_only(s: &[u8]) -> bool
     let mut i: usize = 0;
     while i < s.len() {
         let b = s[i];
-        if b < 48 {
+        if b < b'0' {
             return false;
         }
-        if 57 < b {
+        if b'9' < b {
             return false;
         }
         i += 1;
@@ -93,16 +93,16 @@ fn digits_only(s: &[u8]) -> bool
 fn natural(s: &[u8]) -> bool
     ensures { λ r. ⌜ r ≡ isNatural (now (s .entry)) ⌝ }
 {
-    let n = s.len();
-    if n == 0 {
+    let count = s.len();
+    if count == 0 {
         return false;
     }
-    if 18 < n {
+    if 18 < count {
         return false;
     }
     let first = s[0];
-    if first == 48 {
-        return n == 1;
+    if first == b'0' {
+        return count == 1;
     }
     digits_only(s)
 }
@@ -115,7 +115,7 @@ fn value(s: &[u8]) -> u64
     let mut v: u64 = 0;
     let mut i: usize = 0;
     while i < s.len() {
-        v = v * 10 + (s[i] - 48) as u64;
+        v = v * 10 + (s[i] - b'0') as u64;
         i += 1;
     }
     v
@@ -144,7 +144,7 @@ pub fn parse(s: &[u8]) -> Parsed
         return Parsed::Malformed;
     }
     let first = s[0];
-    if first == 45 {
+    if first == b'-' {
         return negative(&s[1..]);
     }
     if natural(s) {

@@ -8,7 +8,7 @@ use mir.Syntax.{w64}
 use borrow.Rule.Slice.PartMut.{same-len-mid}
 use Rattle.integers.specs.Int.{P, N, bk, ints, fit, excl, sub-is, abs-is}
 use Rattle.decimal.specs.Decimal.{minus, digitsOf}
-use Rattle.decimal.specs.DigitLaws.{digits-below}
+use Rattle.decimal.specs.DigitLaws.{digits-few}
 use Rattle.decimal.specs.DecimalLaws.{text-natural, text-negative}
 use Rattle.decimal.proofs.Steps.{rest-all, after-sign}
 use borrow.Author.Needs.{needs}
@@ -62,7 +62,7 @@ write-digits-requires c κs =
 add-result : tie.Need-add-result
 add-result c =
     let arm = c .before .before .before .before in
-    omega (arith, c .before .before .write-digits .ensures .0, digits-below 17 (size arm) (omega (arith, size-is arm)))
+    omega (arith, c .before .before .write-digits .ensures .0, digits-few (size arm))
 
 same-length : tie.Need-same-length
 same-length c =
