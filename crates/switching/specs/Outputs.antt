@@ -1,5 +1,5 @@
 -- The levels of the outputs: each follows from the preselections aimed at it alone.
--- Paper 01, "Switching", the last three sentences. Outputs are counted from 1, as slot 21 + 8k counts them. Assumes nothing.
+-- Paper 01, "Switching", the last three sentences. Outputs are counted from 1, as targets name them. Assumes nothing.
 use mathlib.Core.Bool.{Bool, false, cond, not, _&&_, _||_}
 use mathlib.Core.List.{List, [], _∷_}
 use Prim.Native.Nat.{ℕ, zero, suc}

@@ -75,7 +75,7 @@ pub switched-at-held : (ps : List Preselection) (r : ℤ) (k : ℕ) (s : Switch)
 unfolding switchedAt
 switched-at-held ps r k s = switched-held (preselectionAt ps k) (preselectionAt ps (partnerOf k) .value) r s
 
--- what switch k is held against
+-- what switch k compares with, turned so that on is upward
 abbrev pub markAt : List Preselection → ℕ → ℤ
 markAt ps k = mark (preselectionAt ps k .mode) (preselectionAt ps k .value) (preselectionAt ps (partnerOf k) .value)
 
