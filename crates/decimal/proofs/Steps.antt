@@ -39,14 +39,14 @@ spell-last out n i h e l =
 pub rest-all : (s : List ℕ) → take (length s - 1) (drop 1 s) ≡ drop 1 s
 rest-all s = take-all (length s - 1) (drop 1 s) (omega (arith, length-drop 1 s))
 
--- the minus sign is written, then the digits in the part after it
-pub after-sign : (out ds ys : List ℕ) (r : ℕ) → 1 ≤ length out → ys ≡ ds ++ drop r (take (length (set out 0 minus) - 1) (drop 1 (set out 0 minus)))
-  → putMid 1 (length (set out 0 minus) - 1) (set out 0 minus) ys ≡ minus ∷ ds ++ drop (r + 1) out
-after-sign [] ds ys r h e = absurd (omega arith)
-after-sign (x ∷ xs) ds ys r h e =
-    let a : ys ≡ ds ++ drop r xs = rw (rest-all (minus ∷ xs)) at e in
-    let l : length xs ≤ length (minus ∷ xs) - 1 = omega arith in
-    let b : drop (length (minus ∷ xs) - 1) xs ≡ [] = drop-of-length-le xs l in
+-- the digits are written in the part after the first byte, then the minus sign before them
+pub signed : (out ds ys : List ℕ) (r : ℕ) → 1 ≤ length out → ys ≡ ds ++ drop r (take (length out - 1) (drop 1 out))
+    → set (putMid 1 (length out - 1) out ys) 0 minus ≡ minus ∷ ds ++ drop (r + 1) out
+signed [] ds ys r h e = absurd (omega arith)
+signed (x ∷ xs) ds ys r h e =
+    let a : ys ≡ ds ++ drop r xs = rw (rest-all (x ∷ xs)) at e in
+    let l : length xs ≤ length (x ∷ xs) - 1 = omega arith in
+    let b : drop (length (x ∷ xs) - 1) xs ≡ [] = drop-of-length-le xs l in
     rw (a, b, add-one r, append-nil)
 
 -- ---- reading

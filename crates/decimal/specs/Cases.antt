@@ -1,6 +1,6 @@
 -- Texts by computing: numbers of the paper's printed lines and the ends of the range, and texts that are no number's.
 use mathlib.Core.Path.{_≡_, refl}
-use mathlib.Core.List.{List, [], _∷_}
+use mathlib.Core.List.{[], _∷_}
 use lib.IntN.{pos, negsuc}
 use Rattle.decimal.specs.declared.Parsed.the-variants.{Number, Malformed}
 use Rattle.decimal.specs.Decimal.{digitsIn, digitsOf, textOf, valueFrom, numberIn, sameText, parsedOf}

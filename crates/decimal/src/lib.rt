@@ -33,7 +33,7 @@ fn places(n: u64) -> usize
 
 // Puts the k digits of n at the start of out, the last one first.
 fn spell(out: &mut [u8], n: u64, k: usize)
-    requires { ⌜ (n ≤ largest) × ((k ≡ length (digitsOf n)) × (k ≤ length (now out))) ⌝ }
+    requires { ⌜ (n ≤ largest) × (k ≡ length (digitsOf n)) × (k ≤ length (now out)) ⌝ }
     ensures { λ _. ⌜ now (out .exit) ≡ digitsOf n ++ drop k (now (out .entry)) ⌝ }
 {
     let mut i = k;
@@ -63,8 +63,8 @@ pub fn write(out: &mut [u8], z: i64) -> usize
 {
     if z < 0 {
         let n = (0 - z) as u64;
-        out[0] = b'-';
         let k = write_digits(&mut out[1..], n);
+        out[0] = b'-';
         return k + 1;
     }
     let n = z as u64;

@@ -25,14 +25,14 @@ returns : tie.Need-returns Inv-loop μ-loop
 returns c =
     let s = c .before .before .before .before .args .s .now in
     let l = c .before .before .before .loop in
-    sym (all-drop s (l .i) (c .before .before .loop-test .taken) ∙ rw (lt-leb 48 (getD s (l .i) 0) (c .if1 .taken))) ∙ l .inv .1
+    sym (all-drop s (l .i) (c .before .before .loop-test .taken) ∙ rw (lt-leb 48 (getD s (l .i) 0) (omega arith))) ∙ l .inv .1
 
 returns-2 : tie.Need-returns-2 Inv-loop μ-loop
 returns-2 c =
     let s = c .before .before .before .before .before .args .s .now in
     let l = c .before .before .before .before .loop in
     let b = getD s (l .i) 0 in
-    sym (all-drop s (l .i) (c .before .before .before .loop-test .taken) ∙ rw (le-leb 48 b (c .before .if1 .left), lt-leb b 57 (c .if2 .taken))) ∙ l .inv .1
+    sym (all-drop s (l .i) (c .before .before .before .loop-test .taken) ∙ rw (le-leb 48 b (omega arith), lt-leb b 57 (omega arith))) ∙ l .inv .1
 
 add-i : tie.Need-add-i Inv-loop μ-loop
 add-i c = omega arith
@@ -45,7 +45,7 @@ loop-again c =
     let s = c .before .before .before .before .before .args .s .now in
     let l = c .before .before .before .before .loop in
     let b = getD s (l .i) 0 in
-    let d = rw (le-leb 48 b (c .before .if1 .left), le-leb b 57 (c .if2 .left)) at (all-drop s (l .i) (c .before .before .before .loop-test .taken)) in
+    let d = rw (le-leb 48 b (omega arith), le-leb b 57 (omega arith)) at (all-drop s (l .i) (c .before .before .before .loop-test .taken)) in
     (omega arith, sym d ∙ l .inv .1)
 
 returns-3 : tie.Need-returns-3 Inv-loop μ-loop

@@ -12,13 +12,13 @@ use Rattle.decimal.proofs.spell.Statement.{statement}
 use Rattle.decimal.proofs.spell.Tie as tie
 
 abbrev Inv-loop : tie.InvT-loop
-Inv-loop out₀ n k i₀ rest₀ out i rest = (length out ≡ length out₀) × ((i ≡ length (digitsOf rest)) × ((i ≤ k) × ((rest ≤ largest) × (digitsOf rest ++ drop i out ≡ digitsOf n ++ drop k out₀))))
+Inv-loop out₀ n k i₀ rest₀ out i rest = (length out ≡ length out₀) × (i ≡ length (digitsOf rest)) × (i ≤ k) × (rest ≤ largest) × (digitsOf rest ++ drop i out ≡ digitsOf n ++ drop k out₀)
 
 abbrev μ-loop : tie.MeasureT-loop
 μ-loop out₀ n k i₀ rest₀ out i rest = rest
 
 loop-holds : tie.Need-loop-holds Inv-loop μ-loop
-loop-holds c = (refl, (c .pre .1 .0, (omega arith, (c .pre .0, refl))))
+loop-holds c = (refl, c .pre .1, omega arith, c .pre .0, refl)
 
 sub-i : tie.Need-sub-i Inv-loop μ-loop
 sub-i c = omega (arith, digits-some (c .before .loop .rest))
@@ -39,13 +39,14 @@ loop-again : tie.Need-loop-again Inv-loop μ-loop
 loop-again c =
     let l = c .before .loop in
     let h = c .loop-test .taken in
-    let b = l .inv .1 .1 .1 .0 in
-    let m = digits-count (l .rest) h b in
-    (length-set (l .out) (l .i - 1) _ ∙ l .inv .0,
-    (omega arith,
-    (omega arith,
-    (omega (arith, shorter (l .rest) h),
-    spell-more (l .out) (l .rest) (l .i) h b (l .inv .1 .0) (omega arith) ∙ l .inv .1 .1 .1 .1))))
+    let b = l .inv .3 in
+    let m = digits-count (l .rest) h b in (
+      length-set (l .out) (l .i - 1) _ ∙ l .inv .0,
+      omega arith,
+      omega arith,
+      omega (arith, shorter (l .rest) h),
+      spell-more (l .out) (l .rest) (l .i) h b (l .inv .1) (omega arith) ∙ l .inv .4,
+    )
 
 cast-out-2 : tie.Need-cast-out-2 Inv-loop μ-loop
 cast-out-2 c = omega arith
@@ -62,7 +63,7 @@ same-length c = length-set (c .before .loop .out) 0 _ ∙ c .before .loop .inv .
 returns : tie.Need-returns Inv-loop μ-loop
 returns c =
     let l = c .before .loop in
-    spell-last (l .out) (l .rest) (l .i) (c .loop-test .left) (l .inv .1 .0) (omega arith) ∙ l .inv .1 .1 .1 .1
+    spell-last (l .out) (l .rest) (l .i) (c .loop-test .left) (l .inv .1) (omega arith) ∙ l .inv .4
 
 pub spell-spec : {M : Type 1} → statement M
 spell-spec =

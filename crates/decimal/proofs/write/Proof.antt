@@ -1,16 +1,15 @@
 -- `decimal::write` meets its contract. A number below 0 is the minus sign and then, in the part after it, the digits of its size; another is its digits.
-use Prim.Native.Nat.{ℕ, _-_, _<_}
-use mathlib.Core.Path.{_≡_, _∙_}
+use Prim.Native.Nat.{ℕ, _<_}
+use mathlib.Core.Path.{_≡_}
 use native.Mathlib.Omega.{arith}
 use lib.IntN.{pos, natAbs, _-ℤ_}
-use lib.ListN.{length, set, length-set, length-drop}
+use lib.ListN.{length-drop}
 use mir.Syntax.{w64}
-use borrow.Rule.Slice.PartMut.{same-len-mid}
 use Rattle.integers.specs.Int.{P, N, bk, ints, fit, excl, sub-is, abs-is}
-use Rattle.decimal.specs.Decimal.{minus, digitsOf}
+use Rattle.decimal.specs.Decimal.{digitsOf}
 use Rattle.decimal.specs.DigitLaws.{digits-few}
 use Rattle.decimal.specs.DecimalLaws.{text-natural, text-negative}
-use Rattle.decimal.proofs.Steps.{rest-all, after-sign}
+use Rattle.decimal.proofs.Steps.{rest-all, signed}
 use borrow.Author.Needs.{needs}
 use Rattle.decimal.proofs.write.Statement.{statement}
 use Rattle.decimal.proofs.write.Tie as tie
@@ -42,41 +41,36 @@ value-is c =
     let z = c .before .before .args .z in
     omega (arith, not-below c, fit (c .before .before .fits .z), abs-is (bk w64 z))
 
-slice-write-out : tie.Need-slice-write-out
-slice-write-out c = search needs
-
 sub-write-digits : tie.Need-sub-write-digits
-sub-write-digits c = omega (arith, length-set (c .before .before .args .out .now) 0 45)
+sub-write-digits c = search needs
 
 part-write-digits-start : tie.Need-part-write-digits-start
-part-write-digits-start c = omega (arith, length-set (c .before .before .args .out .now) 0 45)
+part-write-digits-start c = search needs
 
 part-write-digits-end : tie.Need-part-write-digits-end
 part-write-digits-end c = search needs
 
 write-digits-requires : tie.Need-write-digits-requires
-write-digits-requires c κs =
-    let out = c .before .before .before .args .out .now in
-    (rw (rest-all (set out 0 minus), length-drop, length-set) (omega arith), omega (arith, size-is (c .before)))
+write-digits-requires c κs = (rw (rest-all, length-drop) (omega arith), omega (arith, size-is (c .before)))
+
+slice-write-out : tie.Need-slice-write-out
+slice-write-out c = search needs
 
 add-result : tie.Need-add-result
-add-result c =
-    let arm = c .before .before .before .before in
-    omega (arith, c .before .before .write-digits .ensures .0, digits-few (size arm))
+add-result c = omega (arith, c .before .before .write-digits .ensures .0, digits-few (size (c .before .before .before .before)))
 
 same-length : tie.Need-same-length
-same-length c =
-    let out = c .before .before .before .before .before .before .args .out .now in
-    let w = c .before .before .write-digits in
-    same-len-mid 1 (length (set out 0 minus) - 1) (set out 0 minus) (w .last .0) (w .kept .0) ∙ length-set out 0 minus
+same-length c = search needs
 
 returns : tie.Need-returns
 returns c =
     let arm = c .before .before .before .before in
     let start = arm .before .before in
     let w = c .before .before .write-digits in
-    let t = text-negative (start .args .z) (size arm) (size-is arm) (below-zero arm) in
-    (rw t (omega (arith, w .ensures .0)), rw t (after-sign (start .args .out .now) (digitsOf (size arm)) (w .last .0) (w .result) (omega arith) (w .ensures .1)))
+    let t = text-negative (start .args .z) (size arm) (size-is arm) (below-zero arm) in (
+      rw t (omega (arith, w .ensures .0)),
+      rw t (signed (start .args .out .now) (digitsOf (size arm)) (w .last .0) (w .result) (omega arith) (w .ensures .1)),
+    )
 
 cast-n-2 : tie.Need-cast-n-2
 cast-n-2 c = omega (arith, ints, fit (c .before .before .fits .z), excl (c .before .before .args .z))
@@ -100,11 +94,11 @@ write-spec =
     (tie.spec
     sub-n
     cast-n
-    slice-write-out
     sub-write-digits
     part-write-digits-start
     part-write-digits-end
     write-digits-requires
+    slice-write-out
     add-result
     same-length
     returns

@@ -11,7 +11,7 @@ places-requires c κs = search needs
 spell-requires : tie.Need-spell-requires
 spell-requires c κs =
     let start = c .before .before .before in
-    (start .pre .1, (c .before .places .ensures, omega (arith, c .before .places .ensures, digits-few (start .args .n))))
+    (start .pre .1, c .before .places .ensures, omega (arith, c .before .places .ensures, digits-few (start .args .n)))
 
 same-length : tie.Need-same-length
 same-length c = search needs
