@@ -16,16 +16,19 @@ use Rattle.panel.specs.declared.state.Extremes.{Extremes}
 use Rattle.panel.specs.declared.state.State.{State}
 use Rattle.panel.specs.State.{noExtremes, bothAt, withTable, withReading, withSwitches}
 
--- the number of the error in force
+-- the number of a reading's error, and of the error in force
+abbrev pub errorIn : Reading → ℕ
+errorIn r = errorNumber (r .error)
+
 abbrev pub errorOf : State → ℕ
-errorOf s = errorNumber (s .reading .error)
+errorOf s = errorIn (s .reading)
 
 -- ---- the result worked out again
 
 -- "Least and greatest cover error-free results"
 unfoldable pub notedOf : Extremes → Reading → Extremes
 notedOf x r =
-    cond (eqb (errorNumber (r .error)) 0)
+    cond (eqb (errorIn r) 0)
     (cond (x .any)
     (record { any = true; least = cond (ltZ (r .result) (x .least)) (r .result) (x .least); greatest = cond (ltZ (x .greatest) (r .result)) (r .result) (x .greatest) })
     (bothAt (r .result)))
@@ -56,12 +59,19 @@ unfoldable pub clearLocksOf : State → State
 clearLocksOf s = withSwitches s (allUnlocked (s .switches))
 
 -- 4, clear least and greatest: both at the present result, or none under an error or before the first telegram
+unfoldable pub extremesAt : Bool → ℕ → ℤ → Extremes
+extremesAt seen error result = cond (seen && eqb error 0) (bothAt result) noExtremes
+
 unfoldable pub clearExtremesOf : State → State
-clearExtremesOf s = withReading s (s .reading) (cond (s .seen && eqb (errorOf s) 0) (bothAt (s .reading .result)) noExtremes)
+clearExtremesOf s = withReading s (s .reading) (extremesAt (s .seen) (errorOf s) (s .reading .result))
 
 -- 13: teach with no telegram yet or under any error
 unfoldable pub teachRefusal : Bool → ℕ → ℕ
 teachRefusal seen error = cond (seen && eqb error 0) 0 13
+
+-- actions 5 to 8
+abbrev pub isTeach : ℕ → Bool
+isTeach a = leb 5 a && leb a 8
 
 -- 5..8, teach: preselection 1..4 takes the result
 unfoldable pub teachOf : State → ℕ → State
@@ -71,7 +81,7 @@ teachOf s k = withTable s (withPreselection (s .table) k (s .reading .result))
 unfoldable pub refusalOf : ℕ → State → ℕ
 refusalOf a s =
     cond (eqb a 1) (resetRefusal (s .seen) (errorOf s) (placeOf (s .table) (s .telegram)))
-    (cond (leb 5 a && leb a 8) (teachRefusal (s .seen) (errorOf s)) 0)
+    (cond (isTeach a) (teachRefusal (s .seen) (errorOf s)) 0)
 
 -- what an action that is not refused leaves; 0 is none, and 2, freeze, runs nothing
 unfoldable pub carriedOut : ℕ → State → State
@@ -79,7 +89,7 @@ carriedOut a s =
     cond (eqb a 1) (resetOf s)
     (cond (eqb a 3) (clearLocksOf s)
     (cond (eqb a 4) (clearExtremesOf s)
-    (cond (leb 5 a && leb a 8) (teachOf s (a - 5)) s)))
+    (cond (isTeach a) (teachOf s (a - 5)) s)))
 
 -- a refused command changes nothing
 unfoldable pub commandOf : ℕ → State → Acted
@@ -92,8 +102,11 @@ abbrev pub highAt : ℕ → ℕ → Bool
 highAt l i = eqb (l / 2 ^ i % 2) 1
 
 -- "Config 1 and 2 act on a rise, 0 and 3 on a fall"
+abbrev pub onRise : ℕ → Bool
+onRise c = eqb c 1 || eqb c 2
+
 unfoldable pub actsOn : ℕ → Bool → Bool → Bool
-actsOn c was is = cond (eqb c 1 || eqb c 2) (not was && is) (was && not is)
+actsOn c was is = cond (onRise c) (not was && is) (was && not is)
 
 -- whether new levels l make input i + 1 act
 unfoldable pub edgeAt : State → ℕ → ℕ → Bool
