@@ -4,7 +4,7 @@ use mathlib.Core.Path.{_≡_, refl}
 use lib.IntN.{pos, negsuc}
 use lib.Ieee.{binary32, ofInt, mul, div, add}
 use Rattle.integers.specs.Round.{roundDiv}
-use Rattle.integers.specs.Fraction.{Frac, frac}
+use Rattle.integers.specs.Fraction.{frac}
 use Rattle.analog.specs.declared.Drive.the-variants.{Off, Volts, Milliamps}
 use Rattle.analog.specs.AnalogCode.{codeOf, held}
 use Rattle.analog.specs.Drives.{driveFor, driveOf, floatOf, driveValue}

@@ -13,7 +13,7 @@ use Rattle.integers.specs.Ring.{var, _⊖_, _⊗_, ring, lt-ex, nlt-ex, le}
 use Rattle.integers.specs.Choice.{by-test, is-true, is-false}
 use Rattle.integers.specs.Round.{roundDiv}
 use Rattle.integers.specs.RoundLaws.{off, round-near, round-exact, not-above}
-use Rattle.integers.specs.Fraction.{Frac, frac}
+use Rattle.integers.specs.Fraction.{Frac}
 use Rattle.analog.specs.AnalogCode.{upperOf, lowerOf, fraction, fullScale, lowest, held, roundedOf, codeOf, CodeFits}
 
 -- ---- the rounding: 2 |lower × z − full scale × upper| ≤ lower

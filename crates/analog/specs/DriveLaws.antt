@@ -12,7 +12,7 @@ use lib.Ieee.{Float, binary32, ofInt, lt}
 use lib.Ieee.Exact.{HasValue}
 use Rattle.integers.specs.Int.{ints, abs-is, excl}
 use Rattle.analog.specs.declared.Drive.{Drive}
-use Rattle.integers.specs.Fraction.{Frac, frac, Same}
+use Rattle.integers.specs.Fraction.{Same}
 use Rattle.analog.specs.FloatValue.{Is, valueOf}
 use Rattle.analog.specs.AnalogCode.{codeOf, CodeFits}
 use Rattle.analog.specs.CodeLaws.{code-fits}

@@ -1,4 +1,5 @@
 pub mod Choice
+pub mod Limit
 pub mod Int
 pub mod Ring
 pub mod Round

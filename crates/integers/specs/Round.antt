@@ -1,6 +1,6 @@
 -- The engine's one rounding and one remainder: for every n and every d above 0, `roundDiv n d` is the whole number nearest to n / d,
 -- and at a half the one farther from zero. Paper 01, opening: "Round". A divisor that is not above 0 gives 0. Assumes nothing.
-use Prim.Native.Nat.{ℕ, zero, suc, _+_, _-_, _*_, _/_, _%_}
+use Prim.Native.Nat.{zero, suc, _+_, _-_, _*_, _/_, _%_}
 use lib.IntN.{ℤ, pos, negsuc, negℤ}
 
 -- Opening, "round": to the nearest whole number, halves away from zero

@@ -1,15 +1,14 @@
 -- The laws of `roundDiv` and `floorMod`. Assumes nothing.
 use Prim.Native.Nat.{ℕ, zero, suc, _+_, _-_, _*_, _/_, _%_, _≤_, _<_}
 use mathlib.Core.Path.{_≡_, refl, sym, ap, _∙_}
-use mathlib.Core.Bool.{Bool, true, false}
 use native.Mathlib.Omega.{arith}
 use native.Mathlib.Nat.{div-add-mod', mod-lt, div-zero, mul-le-mul-right, le-antisymm}
 use native.Mathlib.Decide.{decLe}
 use lib.IntN.{ℤ, pos, negsuc, negℤ, natAbs, negℤ-negℤ, _+ℤ_, _-ℤ_, _*ℤ_}
-use lib.Signed.{leZ, quotZ, remZ, _≤ℤ_, _<ℤ_}
-use Rattle.integers.specs.Int.{P, N, excl, ints, le-to, lt-to, le-of, eq-to, neg-P, neg-N, rem-P, rem-N, add-is, sub-is, Within, abs-is}
+use lib.Signed.{quotZ, remZ, _≤ℤ_, _<ℤ_}
+use Rattle.integers.specs.Int.{P, N, excl, ints, neg-P, neg-N, Within, abs-is}
 use Rattle.integers.specs.Ring.{Exp, var, _⊕_, _⊖_, _⊗_, neg, val, up, dn, halves, ring, le}
-use Rattle.integers.specs.Round.{roundDiv, floorMod}
+use Rattle.integers.specs.Round.{roundDiv}
 
 -- ---- on ℕ: ⌊n / d + 1/2⌋ is the q with 2 q d ≤ 2 n + d < 2 q d + 2 d
 

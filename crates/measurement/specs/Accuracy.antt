@@ -1,17 +1,17 @@
 -- Demand 3's accuracy, for one reading: a result without error lies within 1/2 + S/2 of L(E), and with linearization off within 1/2 (S is 0 there).
 -- The scaling rounds once, by at most 1/2; the curve carries that on by at most S times as much and rounds once more. Assumes nothing.
-use mathlib.Core.Path.{_≡_, refl, sym, ap, _∙_, subst}
-use mathlib.Core.Bool.{Bool, true, false, not, cond}
+use mathlib.Core.Path.{_≡_, refl, sym, ap, subst}
+use mathlib.Core.Bool.{Bool}
 use mathlib.Core.List.{List, [], _∷_}
 use Prim.Native.Nat.{ℕ, zero, suc, _+_, _*_, _-_, _≤_, _<_}
 use native.Mathlib.Nat.{mul-le-mul-right, le-of-mul-le-mul-right, mul-pos}
 use native.Mathlib.Omega.{arith}
-use lib.Dec.{T}
-use lib.IntN.{ℤ, pos, negℤ, natAbs, _+ℤ_, _-ℤ_, _*ℤ_}
+use lib.IntN.{ℤ, pos, negℤ, natAbs, _*ℤ_}
 use lib.Signed.{ltZ}
+use Rattle.integers.specs.Limit.{Z}
 use Rattle.integers.specs.Choice.{by-test}
 use Rattle.integers.specs.Int.{ints}
-use Rattle.integers.specs.Ring.{Exp, var, lit, _⊕_, _⊖_, _⊗_, val, up, dn, ring, abs-ex}
+use Rattle.integers.specs.Ring.{var, lit, _⊕_, _⊖_, _⊗_, ring, abs-ex}
 use Rattle.integers.specs.Round.{roundDiv}
 use Rattle.integers.specs.RoundLaws.{off, round-near, round-one}
 use Rattle.measurement.specs.declared.Error.{Error}
@@ -19,9 +19,9 @@ use Rattle.measurement.specs.declared.Error.the-variants as Error
 use Rattle.measurement.specs.declared.Measured.{Measured}
 use Rattle.measurement.specs.declared.Scaling.{Scaling}
 use Rattle.integers.specs.Fraction.{Frac, Ratio, atMost, whole, nearest, gap, apart, allowed, Accurate}
-use Rattle.measurement.specs.Curve.{Point, curve, linearizedOf, fourQuadrants, oneQuadrant, steepest, steepestFrom, rising, origin, Ordered}
+use Rattle.measurement.specs.Curve.{Point, curve, linearizedOf, oneQuadrant, steepest, steepestFrom, rising, origin, Ordered}
 use Rattle.measurement.specs.CurveLaws.{Lip, triangle, lip-four, lip-one, steepest-over, steepest-low, four-den, one-den}
-use Rattle.measurement.specs.Measure.{Z, scaledOf, exact, errorNumber, measured, judgedOf, usedPoints, valueOf, measuredOf, exactOf, exactCurve, distanceOf}
+use Rattle.measurement.specs.Measure.{scaledOf, exact, errorNumber, measured, judgedOf, usedPoints, valueOf, measuredOf, exactOf, exactCurve, distanceOf}
 
 -- a fraction rounded is within 1/2 of it
 pub nearest-gap : (u : Frac) → 0 < u .den → 2 * gap (whole (nearest u)) u ≤ u .den

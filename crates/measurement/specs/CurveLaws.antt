@@ -1,13 +1,13 @@
 -- The curve is nowhere steeper than S, and its fractions have a lower number above zero. Paper 01, "From telegram to result", step 4: L and S.
 -- Two values on one segment differ by the slope times the distance; across a point the two ways add up. Assumes nothing.
-use mathlib.Core.Path.{_≡_, refl, sym, ap, _∙_, subst}
-use mathlib.Core.Bool.{Bool, true, false, not, cond}
+use mathlib.Core.Path.{_≡_, ap, _∙_, subst}
+use mathlib.Core.Bool.{Bool, not}
 use mathlib.Core.List.{List, [], _∷_}
-use Prim.Native.Nat.{ℕ, zero, suc, _+_, _*_, _-_, _≤_, _<_}
+use Prim.Native.Nat.{ℕ, _+_, _*_, _-_, _≤_, _<_}
 use native.Mathlib.Nat.{mul-le-mul-left, mul-le-mul-right, le-of-mul-le-mul-right, mul-pos}
 use native.Mathlib.Omega.{arith}
 use lib.Dec.{T, leb, leb→le, nleb→lt}
-use lib.IntN.{ℤ, pos, negsuc, negℤ, natAbs, _+ℤ_, _-ℤ_, _*ℤ_}
+use lib.IntN.{ℤ, pos, natAbs, _+ℤ_, _-ℤ_, _*ℤ_}
 use lib.Signed.{leZ, ltZ, nonNeg}
 use Rattle.integers.specs.Choice.{by-test}
 use Rattle.integers.specs.Ring.{Exp, var, lit, _⊕_, _⊖_, _⊗_, neg, val, up, dn, ring, abs-ex, abs-plus, abs-times, le-ex, lt-ex, nlt-ex, le-by, nonNeg-N, negative-P}

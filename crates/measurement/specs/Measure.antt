@@ -1,12 +1,12 @@
 -- From position to result: steps 1 to 3 and 5 of paper 01, "From telegram to result" (step 4 is in Curve), and the exact value E.
 -- Assumes nothing.
-use Prim.Native.Nat.{ℕ, _+_, _-_, _*_, _%_, _^_, _≤_, _<_}
+use Prim.Native.Nat.{ℕ, _+_, _-_, _*_, _%_, _^_}
 use mathlib.Core.Bool.{Bool, cond}
 use mathlib.Core.List.{List}
-use mathlib.Core.Path.{_≡_}
 use lib.Dec.{eqb}
 use lib.IntN.{ℤ, pos, negℤ, _+ℤ_, _-ℤ_, _*ℤ_}
 use lib.Signed.{ltZ}
+use Rattle.integers.specs.Limit.{Z}
 use Rattle.integers.specs.Round.{roundDiv, floorMod}
 use Rattle.measurement.specs.declared.Error.{Error}
 use Rattle.measurement.specs.declared.Error.the-variants as Error
@@ -14,10 +14,6 @@ use Rattle.measurement.specs.declared.Measured.{Measured}
 use Rattle.measurement.specs.declared.Scaling.{Scaling}
 use Rattle.integers.specs.Fraction.{Frac}
 use Rattle.measurement.specs.Curve.{Point, pointsFrom, curve, linearizedOf}
-
--- Z, the largest number shown
-abbrev pub Z : ℕ
-Z = 99999999
 
 -- step 1, direction: 1 replaces p by (M − p) modulo M, with M = 2 ^ width
 unfoldable pub turnedOf : ℕ → ℕ → ℕ → ℕ

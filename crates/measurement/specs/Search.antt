@@ -1,8 +1,8 @@
 -- The search among the control points, and what it says of the curve: the highest used point with x at most v picks the segment on which v lies.
 -- Paper 01, "From telegram to result", step 4. Assumes nothing.
 use mathlib.Core.Path.{_≡_, refl, sym, ap, ap₂, _∙_, subst}
-use mathlib.Core.Bool.{Bool, true, false, not, cond}
-use mathlib.Core.List.{List, [], _∷_}
+use mathlib.Core.Bool.{true, false}
+use mathlib.Core.List.{List, _∷_}
 use Prim.Native.Nat.{ℕ, zero, suc, _+_, _*_, _-_, _≤_, _<_}
 use native.Mathlib.Decide.{decLe}
 use native.Mathlib.Nat.{add-zero}
@@ -12,9 +12,10 @@ use lib.Dec.{lit≤, T, leb, leb→le, nleb→lt}
 use lib.IntN.{ℤ, pos, negsuc, natAbs, _+ℤ_, _-ℤ_, _*ℤ_}
 use lib.ListN.{length, getD}
 use lib.Signed.{leZ, ltZ, _≤ℤ_, _<ℤ_}
+use Rattle.integers.specs.Limit.{Z}
 use Rattle.integers.specs.Choice.{by-test, either, is-true, is-false}
-use Rattle.integers.specs.Int.{P, N, ints, excl, Within, within, wider, add-within, sub-within, mul-within}
-use Rattle.integers.specs.Ring.{Exp, var, lit, _⊕_, _⊖_, _⊗_, neg, val, up, dn, ring, abs-ex, le-ex, lt-ex, le-by, nle→lt, le→nlt}
+use Rattle.integers.specs.Int.{ints, excl, Within, within, wider, add-within, sub-within, mul-within}
+use Rattle.integers.specs.Ring.{var, lit, _⊕_, _⊖_, _⊗_, neg, ring, abs-ex, le-ex, lt-ex, le-by, nle→lt, le→nlt}
 use Rattle.integers.specs.Round.{roundDiv}
 use Rattle.integers.specs.RoundLaws.{round-one, round-neg, round-within}
 use Rattle.measurement.specs.declared.Found.{Found}
@@ -26,15 +27,15 @@ use Rattle.measurement.specs.Curve.{Point, pointAt, pointsFrom, highestO
 pub record Usable (ws : List ℤ) (n : ℕ) : Type 0 where
   pub long : 2 * n ≤ length ws
   pub some : 0 < n
-  pub within : (k : ℕ) → k < 2 * n → Within 99999999 (getD ws k (pos 0))
+  pub within : (k : ℕ) → k < 2 * n → Within Z (getD ws k (pos 0))
   pub rises : (j : ℕ) → suc j < n → T (ltZ (pointAt ws j .x) (pointAt ws (suc j) .x))
 
 -- two points within ±Z, and v from the first on and before the second
 pub record OnLine (x y x₁ y₁ v : ℤ) : Type 0 where
-  pub x-within : Within 99999999 x
-  pub y-within : Within 99999999 y
-  pub x₁-within : Within 99999999 x₁
-  pub y₁-within : Within 99999999 y₁
+  pub x-within : Within Z x
+  pub y-within : Within Z y
+  pub x₁-within : Within Z x₁
+  pub y₁-within : Within Z y₁
   pub from : x ≤ℤ v
   pub to : v <ℤ x₁
 
@@ -212,9 +213,9 @@ module _ {ws : List ℤ} {n : ℕ} (u : Usable ws n) (v : ℤ) where
 
 -- ---- sizes
 
-pub v-within : {x y x₁ y₁ v : ℤ} → OnLine x y x₁ y₁ v → Within 99999999 v
+pub v-within : {x y x₁ y₁ v : ℤ} → OnLine x y x₁ y₁ v → Within Z v
 v-within {x} {y} {x₁} {y₁} {v} o =
-    within 99999999 v
+    within Z v
     (omega (arith, ints, o .to, o .x₁-within .above, excl v, excl x₁))
     (omega (arith, ints, o .from, o .x-within .below, excl v, excl x))
 
@@ -226,7 +227,7 @@ line-within x y x₁ y₁ v o =
     (wider (add-within (mul-within (o .y-within) (sub-within (o .x₁-within) (o .x-within))) (mul-within (sub-within (v-within o) (o .x-within)) (sub-within (o .y₁-within) (o .y-within))))
     (lit≤ tt)))
 
-whole-within : (z : ℤ) → Within 99999999 z → Within 60000000000000000 (nearest (whole z))
+whole-within : (z : ℤ) → Within Z z → Within 60000000000000000 (nearest (whole z))
 whole-within z h = rw (round-one z) (wider h (lit≤ tt))
 
 pub four-within : {ws : List ℤ} {n : ℕ} → Usable ws n → (v : ℤ) → Within 60000000000000000 (nearest (fourQuadrants (pointsFrom ws 0 n) (whole v)))

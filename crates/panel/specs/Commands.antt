@@ -1,12 +1,12 @@
 -- The commands of the three inputs: each acts on what the earlier ones left, and a refused one changes nothing.
 -- Paper 01, "Events and inputs", second paragraph, and "Where each check sits", command. Assumes nothing.
-use mathlib.Core.Bool.{Bool, true, false, cond, not, _&&_, _||_}
-use mathlib.Core.List.{List, [], _∷_}
-use Prim.Native.Nat.{ℕ, zero, suc, _+_, _-_, _/_, _%_, _^_}
+use mathlib.Core.Bool.{Bool, true, cond, not, _&&_, _||_}
+use Prim.Native.Nat.{ℕ, _-_, _/_, _%_, _^_}
 use lib.Dec.{eqb, leb, ltb}
 use lib.IntN.{ℤ, pos}
 use lib.Signed.{ltZ}
-use Rattle.measurement.specs.Measure.{Z, errorNumber}
+use Rattle.integers.specs.Limit.{Z}
+use Rattle.measurement.specs.Measure.{errorNumber}
 use Rattle.parameters.specs.Slots.{action, config, withOffset, withPreselection}
 use Rattle.reading.specs.declared.Reading.{Reading}
 use Rattle.reading.specs.Reading.{placeOf, readingOf}

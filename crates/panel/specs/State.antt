@@ -1,6 +1,6 @@
 -- The state of a panel, its fresh state, and its parts set anew. Paper 01, "Events and inputs", "a fresh state".
 -- The table in force stands in the state: a reset stores its offset, a teach a preselection. Assumes nothing.
-use mathlib.Core.Bool.{Bool, true, false}
+use mathlib.Core.Bool.{true, false}
 use mathlib.Core.List.{List, [], _∷_}
 use Prim.Native.Nat.{ℕ}
 use lib.IntN.{ℤ, pos}

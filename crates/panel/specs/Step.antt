@@ -12,7 +12,6 @@ use Rattle.reading.specs.Reading.{acceptsOf}
 use Rattle.settings.specs.Settings.{preselectionsOf}
 use Rattle.switching.specs.Outputs.{outputsOf}
 use Rattle.switching.specs.Switching.{allSwitched, allTicked}
-use Rattle.panel.specs.declared.commands.Acted.{Acted}
 use Rattle.panel.specs.declared.state.State.{State}
 use Rattle.panel.specs.declared.Answer.{Answer}
 use Rattle.panel.specs.State.{withLevels, withTelegram, withShown, withSwitches}

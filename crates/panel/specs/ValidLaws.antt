@@ -9,10 +9,10 @@ use native.Mathlib.Omega.{arith}
 use borrow.Author.Tests.{eq-eqb, eqb-true, leb-true, ltb-false}
 use lib.Dec.{T, eqb, leb, ltb}
 use lib.IntN.{ℤ, pos}
+use Rattle.integers.specs.Limit.{Z}
 use Rattle.events.specs.declared.Event.{Event}
 use Rattle.events.specs.declared.Event.the-variants.{Telegram, Levels, Tick}
 use Rattle.integers.specs.Choice.{by-test, is-true, is-false}
-use Rattle.measurement.specs.Measure.{Z}
 use Rattle.parameters.specs.Slots.{action, withOffset}
 use Rattle.parameters.specs.Stores.{valid-offset, valid-preselection}
 use Rattle.parameters.specs.Valid.{Valid}
@@ -23,7 +23,7 @@ use Rattle.panel.specs.declared.Answer.{Answer}
 use Rattle.panel.specs.declared.commands.Acted.{Acted}
 use Rattle.panel.specs.declared.state.State.{State}
 use Rattle.panel.specs.State.{freshOf, withTable, withLevels, withTelegram, withSwitches}
-use Rattle.panel.specs.Commands.{errorOf, rereadOf, acted, resetRefusal, resetOf, clearLocksOf, clearExtremesOf, isTeach, teachOf, refusalOf, carriedOut, commandOf, edgeAt, firstNote, inputOf, commandsOf}
+use Rattle.panel.specs.Commands.{errorOf, rereadOf, acted, resetRefusal, resetOf, clearLocksOf, clearExtremesOf, isTeach, teachOf, refusalOf, carriedOut, commandOf, edgeAt, inputOf, commandsOf}
 use Rattle.panel.specs.Valid.{Good}
 use Rattle.panel.specs.Step.{answerOf, switchedOf, displayedOf, settledOf, telegramOf, levelsOf, tickOf, stepOf}
 

@@ -9,6 +9,7 @@ ghost use mathlib.Core.Bool.{cond};
 ghost use mathlib.Core.Path.{_≡_};
 ghost use Prim.Native.Nat.{_<_, _≤_};
 ghost use lib.Signed.{ltZ};
+ghost use Rattle.integers.specs.Limit.{Z};
 ghost use Rattle.panel.specs.Commands.{errorIn, notedOf, rereadOf, resetRefusal, resetOf, clearLocksOf, extremesAt, clearExtremesOf, isTeach, teachRefusal, teachOf, refusalOf, carriedOut, commandOf, highAt, onRise, actsOn, edgeAt, firstNote, inputOf, commandsOf};
 ghost use Rattle.reading.specs.Reading.{placeOf};
 ghost use Rattle.panel.specs.Valid.{Good};
@@ -109,7 +110,7 @@ fn teach_refusal(seen: bool, error: u32) -> u8
 
 // Reset: the offset becomes the position after direction.
 fn reset(s: State) -> State
-    requires { ⌜ Good s × (placeOf (s .table) (s .telegram) ≤ 99999999) ⌝ }
+    requires { ⌜ Good s × (placeOf (s .table) (s .telegram) ≤ Z) ⌝ }
     ensures { λ r. ⌜ r ≡ resetOf s ⌝ }
 {
     let place = reading::place(&s.table, s.telegram);

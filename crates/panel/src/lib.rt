@@ -12,7 +12,7 @@ use state::State;
 ghost use mathlib.Core.Path.{_≡_};
 ghost use Prim.Native.Nat.{_<_};
 ghost use Rattle.panel.specs.Load.{loadedOf};
-ghost use Rattle.panel.specs.Step.{answerOf, switchedOf, freezes, frozen, displayedOf, settledOf, telegramOf, levelsOf, tickOf, stepOf};
+ghost use Rattle.panel.specs.Step.{answerOf, switchedOf, freezes, frozen, displayedOf, telegramOf, levelsOf, tickOf, stepOf};
 ghost use Rattle.panel.specs.Valid.{Good};
 
 // The answer to an event.

@@ -8,8 +8,9 @@ use borrow.Author.Tests.{le-ltb, ltb-false, leb-false, lt-ltb, le-leb, ne-eqb, e
 use lib.Dec.{ltb, leb, eqb}
 use lib.IntN.{ℤ, pos, negℤ}
 use lib.Signed.{leZ, _<ℤ_}
+use Rattle.integers.specs.Limit.{Z}
 use Rattle.integers.specs.Int.{P, excl, Within, within, leZ-true, leZ-false, lt-of}
-use Rattle.parameters.specs.Rows.{Z, low, high, rowOf, rowAt, inRange, whole}
+use Rattle.parameters.specs.Rows.{low, high, rowOf, rowAt, inRange, whole}
 use Rattle.parameters.specs.Slots.{wordAt, natAt, resolution, bitsPerTurn, format, highBit, lowBit, offset, direction, roundLoop, errorBit, errorLevel, factor, divider, additive, linearization, analogFormat, analogStart, analogEnd, preselection, mode, hysteresis, pulse, target, polarity, lock, startup, action, config, pointsInUse, pointX, pointY}
 use Rattle.parameters.specs.Search.{some}
 use Rattle.parameters.specs.SearchLaws.{some-none}

@@ -7,11 +7,8 @@ use lib.Dec.{ltb}
 use lib.IntN.{ℤ, pos, negℤ}
 use lib.ListN.{getD}
 use lib.Signed.{leZ}
+use Rattle.integers.specs.Limit.{Z}
 use Rattle.parameters.specs.declared.rows.Row.{Row}
-
--- Z
-abbrev pub Z : ℕ
-Z = 99999999
 
 -- a row's lowest word, highest word and default
 abbrev pub low : Row → ℤ

@@ -10,9 +10,10 @@ use lib.IntN.{ℤ, pos, negℤ}
 use lib.ListN.{length, set, length-set}
 use lib.Seq.{getD-set-same, getD-set-other}
 use lib.Signed.{leZ}
+use Rattle.integers.specs.Limit.{Z}
 use Rattle.integers.specs.Choice.{is-true}
 use Rattle.integers.specs.Int.{Within, le-of}
-use Rattle.parameters.specs.Rows.{Z, rowOf, rowAt, inRange}
+use Rattle.parameters.specs.Rows.{rowOf, rowAt, inRange}
 use Rattle.parameters.specs.Slots.{wordAt, offsetSlot, preselectionSlot, offset, preselection, withOffset, withPreselection}
 use Rattle.parameters.specs.SearchLaws.{some-same}
 use Rattle.parameters.specs.Load.{fieldWrong, errorBitWrong, spanEmpty, notAbove, pointsNotRising, originMissing, frozenByEdge, freezeOnEdge, differ, differsFrom, polaritiesDiffer}

@@ -9,7 +9,6 @@ use Rattle.analog.specs.declared.Drive.{Drive}
 use Rattle.analog.specs.declared.Drive.the-variants.{Off}
 use Rattle.analog.specs.Drives.{driveFor}
 use Rattle.integers.specs.Fraction.{Frac, Ratio}
-use Rattle.measurement.specs.declared.Error.{Error}
 use Rattle.measurement.specs.declared.Measured.{Measured}
 use Rattle.measurement.specs.Curve.{steepest}
 use Rattle.measurement.specs.Measure.{errorNumber, turnedOf, measuredOf, usedPoints, exactCurve}

@@ -1,7 +1,7 @@
 -- A table read as settings: every part of the engine is handed the slots that concern it, under the names of its own struct.
 -- Paper 01, "The parameter table". Assumes nothing.
 use mathlib.Core.List.{List, [], _∷_}
-use Prim.Native.Nat.{ℕ, _+_, _*_}
+use Prim.Native.Nat.{ℕ}
 use lib.IntN.{ℤ}
 use lib.ListN.{drop}
 use Rattle.measurement.specs.declared.Scaling.{Scaling}

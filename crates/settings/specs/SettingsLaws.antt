@@ -1,20 +1,19 @@
 -- A table that loads gives settings that every part accepts: a sound layout, a sound scaling, and points through which a curve can be drawn.
 -- Tables that differ in offset and preselections alone give the same settings otherwise.
 use mathlib.Core.Path.{_≡_, refl, sym, ap, ap₂, _∙_, subst}
-use mathlib.Core.List.{List, [], _∷_}
+use mathlib.Core.List.{List}
 use mathlib.Core.Logic.{_⊎_, inl, inr}
 use Prim.Native.Nat.{ℕ, zero, suc, _+_, _*_, _-_, _≤_, _<_}
-use native.Mathlib.Decide.{decLe, decLt}
+use native.Mathlib.Decide.{decLe}
 use native.Mathlib.Numerals.{add-one}
 use native.Mathlib.Omega.{arith}
 use borrow.Author.Tests.{le-ltb}
-use lib.Dec.{T}
 use lib.IntN.{ℤ, pos}
-use lib.ListN.{length, getD, drop, length-drop}
+use lib.ListN.{length, getD, length-drop}
 use lib.Seq.{getD-drop}
-use lib.Signed.{ltZ}
+use Rattle.integers.specs.Limit.{Z}
 use Rattle.integers.specs.Int.{Within}
-use Rattle.measurement.specs.Curve.{Point, pointAt, pointsFrom, rising, origin, Ordered}
+use Rattle.measurement.specs.Curve.{pointAt, pointsFrom, rising, origin, Ordered}
 use Rattle.measurement.specs.Measure.{usedPoints}
 use Rattle.measurement.specs.Range.{Linearizable}
 use Rattle.measurement.specs.Range as range
@@ -78,7 +77,7 @@ module _ {t : List ℤ} (v : Valid t) where
   unfolding pointsOf
   long = length-drop 56 t ∙ omega (arith, v .long)
 
-  word-within : (k : ℕ) → k < 48 → Within 99999999 (getD (pointsOf t) k (pos 0))
+  word-within : (k : ℕ) → k < 48 → Within Z (getD (pointsOf t) k (pos 0))
   unfolding pointsOf rowAt rowOf
   word-within k h =
       let f = le-ltb (56 + k) 56 (omega arith) in

@@ -2,7 +2,7 @@
 -- Here a bit is counted from 0: bit k is worth 2 ^ k.
 use mathlib.Core.Path.{_≡_, sym, ap, ap₂, _∙_, subst}
 use Prim.Native.Nat.{ℕ, suc, _+_, _-_, _*_, _/_, _%_, _^_, _≤_, _<_}
-use native.Mathlib.Nat.{mod-lt, mod-mod, mul-assoc, one-mul, suc-mul, add-zero, zero-mul, pow-succ'}
+use native.Mathlib.Nat.{mod-lt, mod-mod, mul-assoc, one-mul, suc-mul, add-zero, pow-succ'}
 use native.Mathlib.Numerals.{add-one}
 use native.Mathlib.Omega.{arith}
 use lib.Dec.{lit<}

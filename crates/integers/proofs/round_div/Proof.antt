@@ -3,11 +3,11 @@
 use Prim.Native.Nat.{_<_, _≤_, _*_}
 use native.Mathlib.Omega.{arith}
 use lib.IntN.{ℤ, pos}
-use lib.Signed.{quotZ, remZ}
+use lib.Signed.{remZ}
 use mir.Syntax.{w64}
 use mir.Val.{SFits}
 use mir.Facts.{toZ-ofZ}
-use Rattle.integers.specs.Int.{P, N, ints, fit, again, bk, div-ok, quot-fits, rem-fits, Division, division, sub-is, add-is}
+use Rattle.integers.specs.Int.{P, N, ints, fit, again, bk, div-ok, rem-fits, Division, division, sub-is, add-is}
 use Rattle.integers.specs.RoundLaws.{quot-up, quot-keep, quot-down, not-above}
 use Rattle.integers.proofs.round_div.Statement.{statement}
 use Rattle.integers.proofs.round_div.Tie as tie

@@ -1,11 +1,8 @@
 -- `measurement::distance` meets its contract: the difference of two 32-bit numbers fits 64 bits, and the remainder is `floor_rem`'s.
 use borrow.Author.Needs.{needs}
 use borrow.Author.Tests.{eq-eqb, ne-eqb}
-use mathlib.Core.Path.{_≡_}
 use native.Mathlib.Omega.{arith}
-use lib.IntN.{pos, _-ℤ_}
 use mir.Syntax.{w64}
-use mir.Val.{toZ}
 use mir.Facts.{toZ-ofZ, toZ-pos}
 use Rattle.integers.specs.Int.{ints, fit, back-at}
 use Rattle.measurement.specs.Measure.{distanceOf}

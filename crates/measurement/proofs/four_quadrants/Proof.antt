@@ -1,6 +1,6 @@
 -- `measurement::four_quadrants` meets its contract: `from_point` answers where a point was found, and the first point's y where none was (`value-none`).
 use borrow.Author.Needs.{needs}
-use mathlib.Core.Path.{_≡_, sym, ap, _∙_}
+use mathlib.Core.Path.{sym, ap, _∙_}
 use native.Mathlib.Omega.{arith}
 use lib.IntN.{pos}
 use lib.ListN.{getD}

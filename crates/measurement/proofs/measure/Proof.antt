@@ -1,11 +1,10 @@
 -- `measurement::measure` meets its contract: each step's answer is the next step's argument, and its size is what that step asks.
 use borrow.Author.Needs.{needs}
-use mathlib.Core.Path.{_≡_, sym, _∙_}
+use mathlib.Core.Path.{_≡_, _∙_}
 use native.Mathlib.Omega.{arith}
 use mir.Syntax.{w32, w64}
-use Rattle.integers.specs.Int.{bk, back-at, Within}
+use Rattle.integers.specs.Int.{bk, back-at}
 use Rattle.measurement.specs.Measure.{distanceOf, scaledOf, usedPoints, valueOf, measuredOf}
-use Rattle.measurement.specs.Curve.{linearizedOf, pointsFrom}
 use Rattle.measurement.specs.Range.{distance-within, scaled-within}
 use Rattle.measurement.proofs.measure.Statement.{statement}
 use Rattle.measurement.proofs.measure.Tie as tie

@@ -1,12 +1,13 @@
 -- `measurement::on_line` meets its contract: every number stays below 10^17, and what is divided is the line's whole fraction (`line-value`).
 use borrow.Author.Needs.{needs}
-use mathlib.Core.Path.{_≡_, _∙_}
+use mathlib.Core.Path.{_∙_}
 use native.Mathlib.Omega.{arith}
 use lib.Dec.{lit<}
-use lib.IntN.{_-ℤ_, _*ℤ_}
+use lib.IntN.{_-ℤ_}
 use lib.Signed.{_<ℤ_}
 use mir.Syntax.{w32, w64}
 use mir.Facts.{toZ-ofZ}
+use Rattle.integers.specs.Limit.{Z}
 use Rattle.integers.specs.Int.{bk, ints, excl, kept, Within, within, add-within, sub-within, mul-within, fits-within, mul-fits, back-at}
 use Rattle.measurement.specs.Search.{line-value}
 use Rattle.measurement.proofs.on_line.Statement.{statement}
@@ -18,7 +19,7 @@ cast-dx c = omega (arith, ints)
 cast-dx-2 : tie.Need-cast-dx-2
 cast-dx-2 c = omega (arith, ints)
 
-x-size : (s : tie.Start) → Within 99999999 (bk w64 (bk w32 (s .args .x)))
+x-size : (s : tie.Start) → Within Z (bk w64 (bk w32 (s .args .x)))
 x-size s = kept (cast-dx-2 s) (kept (s .fits .x) (s .pre .x-within))
 
 sub-dx : tie.Need-sub-dx
@@ -33,7 +34,7 @@ cast-dy c = omega (arith, ints)
 cast-dy-2 : tie.Need-cast-dy-2
 cast-dy-2 c = omega (arith, ints)
 
-y-size : (s : tie.Start) → Within 99999999 (bk w64 (bk w32 (s .args .y)))
+y-size : (s : tie.Start) → Within Z (bk w64 (bk w32 (s .args .y)))
 y-size s = kept (cast-dy-2 s) (kept (s .fits .y) (s .pre .y-within))
 
 sub-dy : tie.Need-sub-dy
@@ -52,11 +53,11 @@ cast-rise : tie.Need-cast-rise
 cast-rise c = cast-dx-2 c
 
 -- v lies between the two points
-v-size : (s : tie.Start) → Within 99999999 (bk w64 (s .args .v))
+v-size : (s : tie.Start) → Within Z (bk w64 (s .args .v))
 v-size s =
     let p = s .pre in
     kept (s .fits .v)
-    (within 99999999 (s .args .v)
+    (within Z (s .args .v)
     (omega (arith, ints, p .to, p .x₁-within .above, excl (s .args .v), excl (s .args .x1)))
     (omega (arith, ints, p .from, p .x-within .below, excl (s .args .v), excl (s .args .x))))
 

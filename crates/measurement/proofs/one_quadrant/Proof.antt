@@ -1,6 +1,5 @@
 -- `measurement::one_quadrant` meets its contract: below 0 the value is minus that of -v (`one-negative`), else that of v.
-use borrow.Author.Needs.{needs}
-use mathlib.Core.Path.{_≡_, sym, _∙_}
+use mathlib.Core.Path.{sym, _∙_}
 use native.Mathlib.Omega.{arith}
 use lib.IntN.{pos, _-ℤ_}
 use mir.Syntax.{w64}

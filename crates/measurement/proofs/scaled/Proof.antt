@@ -3,12 +3,11 @@ use borrow.Author.Needs.{needs}
 use mathlib.Core.Path.{_≡_}
 use native.Mathlib.Omega.{arith}
 use lib.Dec.{lit<}
-use lib.IntN.{ℤ, pos, _*ℤ_}
+use lib.IntN.{pos}
 use mir.Syntax.{w64}
 use mir.Val.{toZ}
 use mir.Facts.{toZ-ofZ, toZ-pos}
 use Rattle.integers.specs.Int.{bk, ints, fit, fit-at, back-at, kept, Within, mul-within, mul-fits}
-use Rattle.integers.specs.Round.{roundDiv}
 use Rattle.integers.specs.RoundLaws.{round-within}
 use Rattle.measurement.specs.Measure.{scaledOf}
 use Rattle.measurement.proofs.scaled.Statement.{statement}

@@ -1,7 +1,7 @@
 -- `panel::holds` meets its contract by its tests.
 use borrow.Author.Needs.{needs}
 use borrow.Author.Tests.{eq-eqb, ne-eqb}
-use mathlib.Core.Path.{_≡_, sym, _∙_}
+use mathlib.Core.Path.{sym, _∙_}
 use Rattle.panel.specs.Step.{freezes}
 use Rattle.panel.proofs.holds.Statement.{statement}
 use Rattle.panel.proofs.holds.Tie as tie

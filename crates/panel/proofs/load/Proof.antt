@@ -1,6 +1,5 @@
 -- `panel::load` meets its contract: whatever is loaded, the table is valid, and its fresh state too.
 use borrow.Author.Needs.{needs}
-use mathlib.Core.Path.{_≡_}
 use Rattle.parameters.specs.Valid.{load-valid}
 use Rattle.panel.specs.Load.{loadedOf}
 use Rattle.panel.specs.ValidLaws.{good-fresh}

@@ -1,11 +1,9 @@
 -- `reading::place` meets its contract: the position is below M, so direction turns it within M.
 use borrow.Author.Needs.{needs}
-use Prim.Native.Nat.{_≤_, _^_, _<_}
 use native.Mathlib.Omega.{arith}
 use Rattle.settings.specs.Settings.{layoutOf}
 use Rattle.settings.specs.SettingsLaws.{layout-sound}
 use Rattle.ssi.specs.SoundLaws.{position-lt}
-use Rattle.ssi.specs.Telegram.{widthOf, positionOf}
 use Rattle.reading.specs.Reading.{placeOf}
 use Rattle.reading.proofs.place.Statement.{statement}
 use Rattle.reading.proofs.place.Tie as tie

@@ -2,7 +2,6 @@
 use borrow.Author.Needs.{needs}
 use lib.ListN.{drop, length-drop}
 use lib.Seq.{take-length}
-use mathlib.Core.Path.{_≡_, ap}
 use Rattle.settings.specs.Settings.{pointsOf}
 use Rattle.reading.proofs.points.Statement.{statement}
 use Rattle.reading.proofs.points.Tie as tie

@@ -1,7 +1,6 @@
 -- `reading::read` meets its contract: the measured result and error, and their drive.
 use borrow.Author.Needs.{needs}
 use mir.Syntax.{w32}
-use mir.Facts.{toZ-ofZ}
 use Rattle.reading.specs.Reading.{readingOf}
 use mathlib.Core.Path.{_≡_}
 use mir.Val.{toZ, ofZ}

@@ -1,6 +1,6 @@
 -- `panel::commands::acts_on` meets its contract by its tests.
 use borrow.Author.Needs.{needs}
-use Rattle.panel.specs.Commands.{onRise, actsOn}
+use Rattle.panel.specs.Commands.{actsOn}
 use Rattle.panel.proofs.commands.acts_on.Statement.{statement}
 use Rattle.panel.proofs.commands.acts_on.Tie as tie
 

@@ -1,8 +1,7 @@
 -- `panel::commands::carry_out` meets its contract by its tests: an action that is not refused may do what it does.
 use borrow.Author.Needs.{needs}
 use borrow.Author.Tests.{eq-eqb, ne-eqb}
-use mathlib.Core.Path.{_≡_, sym, _∙_}
-use mathlib.Core.Bool.{true}
+use mathlib.Core.Path.{sym, _∙_}
 use native.Mathlib.Omega.{arith}
 use Rattle.integers.specs.Choice.{true-is}
 use Rattle.panel.specs.Commands.{isTeach, carriedOut}

@@ -1,7 +1,7 @@
 -- `panel::commands::command` meets its contract: what is refused changes nothing.
 use borrow.Author.Needs.{needs}
 use borrow.Author.Tests.{eq-eqb, ne-eqb}
-use mathlib.Core.Path.{_≡_, sym, _∙_}
+use mathlib.Core.Path.{sym, _∙_}
 use Rattle.panel.specs.Commands.{commandOf}
 use Rattle.panel.proofs.commands.command.Statement.{statement}
 use Rattle.panel.proofs.commands.command.Tie as tie
