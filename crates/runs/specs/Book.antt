@@ -1,0 +1,66 @@
+-- The book of a run: of the table and the events alone, it gives E its p and O. It knows no state and no answer.
+-- Paper 01, "Runs", second paragraph. Assumes nothing.
+use mathlib.Core.Bool.{Bool, true, false, cond, _&&_}
+use mathlib.Core.List.{List, [], _∷_}
+use Prim.Native.Nat.{ℕ}
+use lib.Dec.{eqb, leb}
+use lib.IntN.{ℤ, pos}
+use Rattle.events.specs.declared.Event.{Event}
+use Rattle.events.specs.declared.Event.the-variants.{Telegram, Levels, Tick}
+use Rattle.parameters.specs.Slots.{offset, action, config}
+use Rattle.reading.specs.Reading.{acceptsOf, placeOf}
+use Rattle.settings.specs.Settings.{layoutOf}
+use Rattle.ssi.specs.Telegram.{errorReported}
+use Rattle.panel.specs.Commands.{resetRefusal, highAt, actsOn}
+
+pub record Book : Type 0 where
+  pub levels : ℕ
+  -- whether it has a telegram, and which
+  pub seen : Bool
+  pub telegram : ℕ
+  -- O
+  pub offset : ℤ
+
+-- "It starts with levels low, no telegram, O from slot 5"
+abbrev pub freshBook : List ℤ → Book
+freshBook t = record { levels = 0; seen = false; telegram = 0; offset = offset t }
+
+-- ---- one part set anew
+
+abbrev pub takes : Book → ℕ → Book
+takes b w = record { levels = b .levels; seen = true; telegram = w; offset = b .offset }
+
+abbrev pub turnsTo : Book → ℕ → Book
+turnsTo b l = record { levels = l; seen = b .seen; telegram = b .telegram; offset = b .offset }
+
+abbrev pub movesTo : Book → ℤ → Book
+movesTo b o = record { levels = b .levels; seen = b .seen; telegram = b .telegram; offset = o }
+
+-- ---- resets
+
+-- "each edge that asks for a reset": action 1
+unfoldable pub asksReset : List ℤ → Book → ℕ → ℕ → Bool
+asksReset t b l i = actsOn (config t i) (highAt (b .levels) i) (highAt l i) && eqb (action t i) 1
+
+-- 13 or 12 for its telegram, else 0. Error 3 is told by the telegram alone: its error bit is at the error level
+unfoldable pub bookRefusal : List ℤ → Book → ℕ
+bookRefusal t b = resetRefusal (b .seen) (cond (errorReported (layoutOf t) (b .telegram)) 3 0) (placeOf t (b .telegram))
+
+-- "unless 13 or 12 holds for its telegram, sets O to that telegram's p after direction"
+unfoldable pub bookInput : List ℤ → ℕ → ℕ → Book → Book
+bookInput t l i b = cond (asksReset t b l i && eqb (bookRefusal t b) 0) (movesTo b (pos (placeOf t (b .telegram)))) b
+
+-- ---- events
+
+-- "A telegram with no bit above N becomes its telegram. Levels up to 7 replace its levels .. Nothing else changes it"
+unfoldable pub bookStep : List ℤ → Book → Event → Book
+bookStep t b (Telegram w) = cond (acceptsOf t w) (takes b w) b
+bookStep t b (Levels l) = cond (leb l 7) (turnsTo (bookInput t l 2 (bookInput t l 1 (bookInput t l 0 b))) l) b
+bookStep t b (Tick ms) = b
+
+unfoldable pub bookFrom : List ℤ → Book → List Event → Book
+bookFrom t b [] = b
+bookFrom t b (e ∷ es) = bookFrom t (bookStep t b e) es
+
+abbrev pub bookOf : List ℤ → List Event → Book
+bookOf t es = bookFrom t (freshBook t) es

@@ -1,0 +1,254 @@
+-- While no command stores a preselection, each condition of a run obeys the law of its mode from event to event: commands leave conditions as they are, a settled
+-- event turns them by the mode's rule on the result answered, ticks and refusals keep them. A teach is the only command that writes a preselection.
+use mathlib.Core.Path.{_≡_, refl, sym, ap, _∙_, subst}
+use mathlib.Core.Bool.{Bool, true, false, not, _&&_, _||_}
+use mathlib.Core.List.{List, [], _∷_}
+use Prim.Native.Nat.{ℕ, zero, suc, _<_}
+use native.Mathlib.Omega.{arith}
+use lib.Dec.{T, eqb, leb}
+use lib.IntN.{ℤ, pos}
+use lib.ListN.{length}
+use Rattle.events.specs.declared.Event.{Event}
+use Rattle.events.specs.declared.Event.the-variants.{Telegram, Levels, Tick}
+use Rattle.integers.specs.Choice.{by-test}
+use Rattle.parameters.specs.Slots.{offsetSlot, preselectionSlot, action, withOffset}
+use Rattle.parameters.specs.Stores.{word-kept, offset-alike}
+use Rattle.reading.specs.Reading.{acceptsOf, placeOf}
+use Rattle.settings.specs.Settings.{preselectionsOf}
+use Rattle.switching.specs.declared.Preselection.{Preselection}
+use Rattle.switching.specs.declared.Switch.{Switch}
+use Rattle.switching.specs.EachLaws.{each-length}
+use Rattle.switching.specs.Switching.{freshSwitch, preselectionAt, switchAt, switchedAt, allSwitched, allTicked, tickedOf, unlockedOf}
+use Rattle.switching.specs.SwitchingLaws.{Held, fresh-held, markAt, switched-at-held, switched-at-turns, all-switched-at, all-ticked-at, all-unlocked-at}
+use Rattle.switching.specs.Travel.{hysteretic}
+use Rattle.switching.specs.TravelLaws.{Turns, Lawful, stays, view}
+use Rattle.panel.specs.declared.Answer.{Answer}
+use Rattle.panel.specs.declared.commands.Acted.{Acted}
+use Rattle.panel.specs.declared.state.State.{State}
+use Rattle.panel.specs.State.{freshOf, withLevels, withTelegram, withSwitches}
+use Rattle.panel.specs.Commands.{isTeach, rereadOf, acted, resetOf, clearLocksOf, clearExtremesOf, teachOf, refusalOf, commandOf, edgeAt, inputOf, commandsOf}
+use Rattle.panel.specs.Step.{answerOf, switchedOf, displayedOf, settledOf, telegramOf, levelsOf, tickOf, stepOf}
+use Rattle.runs.specs.Run.{answersOf, counted, seenIn, teaches, storesAt, storedBy, stored}
+use Rattle.panel.specs.ValidLaws.{by-command, by-input, by-step}
+use Rattle.runs.specs.AlikeLaws.{preselections-alike}
+use Rattle.runs.specs.RunLaws.{step-own, own-result, own-error}
+use Rattle.runs.specs.KeptLaws.{Kept, kept-step}
+
+-- ---- tests
+
+and-no : (a b : Bool) → T (not (a && b)) → T a → T (not b)
+and-no true b n y = n
+and-no false b n y = absurd y
+
+both : (a b : Bool) → T a → T b → T (a && b)
+both true b y z = z
+both false b y z = absurd y
+
+or-left : (a b : Bool) → T (not (a || b)) → T (not a)
+or-left true b n = n
+or-left false b n = tt
+
+or-right : (a b : Bool) → T (not (a || b)) → T (not b)
+or-right true b n = absurd n
+or-right false b n = n
+
+never : (b : Bool) → T b → T (not b) → ⊥
+never true y n = n
+never false y n = y
+
+-- ---- where nothing is stored, the preselections stay
+
+offset-preselections : (t : List ℤ) (x : ℤ) → preselectionsOf (withOffset t x) ≡ preselectionsOf t
+offset-preselections t x = preselections-alike (offset-alike t x) (λ k h. word-kept t offsetSlot x (preselectionSlot k) (λ e. omega arith))
+
+abbrev preselectionsIn : State → List Preselection
+preselectionsIn s = preselectionsOf (s .table)
+
+command-stores : (a : ℕ) (s : State) → T (not (teaches a s)) → preselectionsIn (commandOf a s .state) ≡ preselectionsIn s
+unfolding teaches resetOf rereadOf clearLocksOf clearExtremesOf
+command-stores a s n =
+    by-command a s (λ (u : State). preselectionsIn u ≡ preselectionsIn s) refl
+    (λ _ _. offset-preselections (s .table) (pos (placeOf (s .table) (s .telegram)))) refl refl
+    (λ k h y z. absurd (never (teaches a s) (both (isTeach a) (eqb (refusalOf a s) 0) y z) n))
+
+input-stores : (l i : ℕ) (x : Acted) → T (not (storesAt l i x)) → preselectionsIn (inputOf l i x .state) ≡ preselectionsIn (x .state)
+unfolding storesAt
+input-stores l i x n =
+    by-input l i x (λ (u : State). preselectionsIn u ≡ preselectionsIn (x .state))
+    (λ y. command-stores (action (x .state .table) i) (x .state) (and-no (edgeAt (x .state) l i) (teaches (action (x .state .table) i) (x .state)) n y))
+    (λ _. refl)
+
+settled-table : (s : State) → settledOf s .table ≡ s .table
+unfolding switchedOf displayedOf
+settled-table s = by-test (s .seen) _ s (λ (u : State). displayedOf u .table ≡ s .table) (λ _. refl) (λ _. refl)
+
+pub step-stores : (s : State) (e : Event) → T (not (storedBy s e)) → preselectionsIn (stepOf s e .state) ≡ preselectionsIn s
+unfolding stepOf telegramOf levelsOf tickOf answerOf storedBy commandsOf rereadOf
+step-stores s (Telegram w) n =
+    by-test (acceptsOf (s .table) w) _ _ (λ (a : Answer). preselectionsIn (a .state) ≡ preselectionsIn s)
+    (λ _. rw (settled-table (rereadOf (withTelegram s w)))) (λ _. refl)
+step-stores s (Levels l) n =
+    by-test (leb l 7) _ _ (λ (a : Answer). preselectionsIn (a .state) ≡ preselectionsIn s)
+    (λ y. let m = and-no (leb l 7) (storesAt l 0 x₀ || (storesAt l 1 x₁ || storesAt l 2 x₂)) n y in
+    let m₁ = or-right (storesAt l 0 x₀) (storesAt l 1 x₁ || storesAt l 2 x₂) m in
+    rw (settled-table (withLevels (commandsOf s l .state) l))
+    (input-stores l 2 x₂ (or-right (storesAt l 1 x₁) (storesAt l 2 x₂) m₁)
+    ∙ input-stores l 1 x₁ (or-left (storesAt l 1 x₁) (storesAt l 2 x₂) m₁)
+    ∙ input-stores l 0 x₀ (or-left (storesAt l 0 x₀) (storesAt l 1 x₁ || storesAt l 2 x₂) m)))
+    (λ _. refl)
+  where
+    x₀ : Acted
+    x₀ = acted s 0
+
+    x₁ : Acted
+    x₁ = inputOf l 0 x₀
+
+    x₂ : Acted
+    x₂ = inputOf l 1 x₁
+step-stores s (Tick ms) n = refl
+
+-- after each event the preselections ps are in force: all that the bound asks of the commands
+unfoldable pub Unchanged : List Preselection → State → List Event → Type 0
+Unchanged ps s [] = Unit {0}
+Unchanged ps s (e ∷ es) = (preselectionsOf (stepOf s e .state .table) ≡ ps) × Unchanged ps (stepOf s e .state) es
+
+pub quiet-unchanged : (ps : List Preselection) (s : State) (es : List Event) → T (not (stored s es)) → preselectionsIn s ≡ ps → Unchanged ps s es
+unfolding stored Unchanged
+quiet-unchanged ps s [] n e = tt
+quiet-unchanged ps s (v ∷ es) n e =
+    let same = step-stores s v (or-left (storedBy s v) (stored (stepOf s v .state) es) n) ∙ e in
+    (same, quiet-unchanged ps (stepOf s v .state) es (or-right (storedBy s v) (stored (stepOf s v .state) es) n) same)
+
+-- ---- commands leave the conditions
+
+-- condition k + 1, and whether its suppression has ended
+abbrev pub switchIn : State → ℕ → Switch
+switchIn s k = switchAt (s .switches) k
+
+-- in the fresh state all four are fresh
+fresh-four : (t : List ℤ) → length (freshOf t .switches) ≡ 4
+unfolding freshOf
+fresh-four t = refl
+
+pub fresh-switch : (t : List ℤ) (k : ℕ) → k < 4 → switchIn (freshOf t) k ≡ freshSwitch
+unfolding freshOf
+fresh-switch t zero h = refl
+fresh-switch t (suc zero) h = refl
+fresh-switch t (suc (suc zero)) h = refl
+fresh-switch t (suc (suc (suc zero))) h = refl
+fresh-switch t (suc (suc (suc (suc k)))) h = absurd (omega arith)
+
+record Left (s u : State) (k : ℕ) : Type 0 where
+  four : length (u .switches) ≡ 4
+  on-same : switchIn u k .on ≡ switchIn s k .on
+  released-same : switchIn u k .released ≡ switchIn s k .released
+
+module _ (k : ℕ) (small : k < 4) where
+  left-refl : (s : State) → length (s .switches) ≡ 4 → Left s s k
+  left-refl s e = record { four = e; on-same = refl; released-same = refl }
+
+  left-command : (a : ℕ) (s u : State) → Left s u k → Left s (commandOf a u .state) k
+  unfolding resetOf rereadOf clearLocksOf clearExtremesOf teachOf
+  left-command a s u q =
+      by-command a u (λ (v : State). Left s v k) q
+      (λ _ _. record { four = q .four; on-same = q .on-same; released-same = q .released-same })
+      (record {
+        four = each-length 0 (λ j. unlockedOf) (u .switches) ∙ q .four;
+        on-same = rw (all-unlocked-at (u .switches) (q .four) k small) (q .on-same);
+        released-same = rw (all-unlocked-at (u .switches) (q .four) k small) (q .released-same);
+      })
+      (record { four = q .four; on-same = q .on-same; released-same = q .released-same })
+      (λ j h y z. record { four = q .four; on-same = q .on-same; released-same = q .released-same })
+
+  left-input : (l i : ℕ) (s : State) (x : Acted) → Left s (x .state) k → Left s (inputOf l i x .state) k
+  left-input l i s x q = by-input l i x (λ (v : State). Left s v k) (λ _. left-command (action (x .state .table) i) s (x .state) q) (λ _. q)
+
+  left-commands : (s : State) (l : ℕ) → length (s .switches) ≡ 4 → Left s (commandsOf s l .state) k
+  unfolding commandsOf
+  left-commands s l e =
+      left-input l 2 s (inputOf l 1 (inputOf l 0 (acted s 0))) (left-input l 1 s (inputOf l 0 (acted s 0)) (left-input l 0 s (acted s 0) (left-refl s e)))
+
+-- ---- an event turns a condition by the rule of its mode
+
+-- the result that travel counts is the state's
+counted-is : {t : List ℤ} {s : State} → Kept t s → (e : Event) → counted (stepOf s e) ≡ stepOf s e .state .reading .result
+counted-is {t} {s} c e = rw (own-error (step-own s e), own-result (step-own s e)) (kept-step t c e .zeroed)
+
+module _ (ps : List Preselection) (k : ℕ) (small : k < 4) (hy : T (hysteretic (preselectionAt ps k .mode))) where
+  -- the law of preselection k + 1: at the result r its condition goes from was to on
+  abbrev Obeys : ℤ → Bool → Bool → Type 0
+  Obeys r was on = Turns (view (preselectionAt ps k .mode) r) (markAt ps k) (preselectionAt ps k .hysteresis) was on
+
+  -- there are four switches, and this one is off while it is suppressed
+  pub record Ready (s : State) : Type 0 where
+    pub four : length (s .switches) ≡ 4
+    pub held : Held (switchIn s k)
+
+  -- an event leads from s to u
+  record Law (s u : State) : Type 0 where
+    turns : Obeys (u .reading .result) (switchIn s k .on) (switchIn u k .on)
+    ready : Ready u
+
+  law-same : (s : State) → Ready s → Law s s
+  law-same s i = record { turns = stays _ _ _ (switchIn s k .on); ready = i }
+
+  law-settled : (s u : State) → Ready s → Left s u k → preselectionsIn u ≡ ps → Law s (settledOf u)
+  unfolding switchedOf displayedOf
+  law-settled s u i q e =
+      by-test (u .seen) _ u (λ (v : State). Law s (displayedOf v))
+      (λ _. record {
+        turns =
+            subst (λ (w : Switch). Obeys (u .reading .result) (switchIn s k .on) (w .on)) (sym switch-is)
+            (subst (λ (b : Bool). Obeys (u .reading .result) b (switchedAt ps (u .reading .result) k (switchIn u k) .on)) (q .on-same)
+            (switched-at-turns ps (u .reading .result) k (switchIn u k) hy held));
+        ready = record {
+          four = each-length 0 (switchedAt (preselectionsIn u) (u .reading .result)) (u .switches) ∙ q .four;
+          held = subst Held (sym switch-is) (switched-at-held ps (u .reading .result) k (switchIn u k));
+        };
+      })
+      (λ _. record {
+        turns = subst (λ (b : Bool). Obeys (u .reading .result) b (switchIn u k .on)) (q .on-same) (stays _ _ _ (switchIn u k .on));
+        ready = record { four = q .four; held = held };
+      })
+    where
+      held : Held (switchIn u k)
+      held n = rw (q .on-same) (i .held (rw (q .released-same) at n))
+
+      switch-is : switchAt (allSwitched (preselectionsIn u) (u .reading .result) (u .switches)) k ≡ switchedAt ps (u .reading .result) k (switchIn u k)
+      switch-is = all-switched-at (u .switches) (q .four) k small (preselectionsIn u) (u .reading .result) ∙ rw e
+
+  law-ticked : (s : State) (ms : ℕ) → Ready s → Law s (withSwitches s (allTicked ms (s .switches)))
+  law-ticked s ms i =
+      record {
+        turns = subst (λ (w : Switch). Obeys (s .reading .result) (switchIn s k .on) (w .on)) (sym switch-is) (stays _ _ _ (switchIn s k .on));
+        ready = record { four = each-length 0 (λ j. tickedOf ms) (s .switches) ∙ i .four; held = subst Held (sym switch-is) (i .held) };
+      }
+    where
+      switch-is : switchAt (allTicked ms (s .switches)) k ≡ tickedOf ms (switchIn s k)
+      switch-is = all-ticked-at (s .switches) (i .four) k small ms
+
+  law-step : (s : State) (e : Event) → Ready s → preselectionsIn (stepOf s e .state) ≡ ps → Law s (stepOf s e .state)
+  unfolding rereadOf
+  law-step s e i =
+      by-step s e (λ (u : State). preselectionsIn u ≡ ps → Law s u) (λ _. law-same s i)
+      (λ w h. law-settled s (rereadOf (withTelegram s w)) i (record { four = i .four; on-same = refl; released-same = refl })
+      (ap preselectionsOf (sym (settled-table (rereadOf (withTelegram s w)))) ∙ h))
+      (λ l h. let q = left-commands k small s l (i .four) in
+      law-settled s (withLevels (commandsOf s l .state) l) i (record { four = q .four; on-same = q .on-same; released-same = q .released-same })
+      (ap preselectionsOf (sym (settled-table (withLevels (commandsOf s l .state) l))) ∙ h))
+      (λ ms _. law-ticked s ms i)
+
+  -- ---- a run
+
+  pub lawful : {t : List ℤ} (s : State) (es : List Event) → Kept t s → Ready s → Unchanged ps s es →
+      Lawful (view (preselectionAt ps k .mode)) (markAt ps k) (preselectionAt ps k .hysteresis) (switchIn s k .on) (seenIn k (answersOf s es))
+  unfolding Unchanged seenIn answersOf Lawful
+  lawful s [] c i u = tt
+  lawful {t} s (e ∷ es) c i u =
+      let l = law-step s e i (u .0) in (
+        subst (λ (r : ℤ). Obeys r (switchIn s k .on) (switchIn (stepOf s e .state) k .on)) (sym (counted-is c e)) (l .turns),
+        lawful (stepOf s e .state) es (kept-step t c e) (l .ready) (u .1),
+      )
+
+  pub ready-fresh : (t : List ℤ) → Ready (freshOf t)
+  ready-fresh t = record { four = fresh-four t; held = subst Held (sym (fresh-switch t k small)) fresh-held }

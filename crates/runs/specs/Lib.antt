@@ -1,0 +1,9 @@
+pub mod Run
+pub mod Book
+pub mod Demand3
+pub mod AlikeLaws
+pub mod RunLaws
+pub mod KeptLaws
+pub mod BookLaws
+pub mod ChangesLaws
+pub mod Demand3Laws

@@ -1,0 +1,64 @@
+-- A run is a list of events, refused ones too, from the fresh state of a loaded table; each gets the state the last returned.
+-- Paper 01, "Runs", first and third paragraph. Assumes nothing.
+use mathlib.Core.Bool.{Bool, false, cond, _&&_, _||_}
+use mathlib.Core.List.{List, [], _∷_}
+use Prim.Native.Nat.{ℕ}
+use lib.Dec.{eqb, leb}
+use lib.IntN.{ℤ, pos}
+use Rattle.events.specs.declared.Event.{Event}
+use Rattle.events.specs.declared.Event.the-variants.{Telegram, Levels, Tick}
+use Rattle.measurement.specs.Measure.{errorNumber}
+use Rattle.parameters.specs.Slots.{action}
+use Rattle.switching.specs.Switching.{switchAt}
+use Rattle.switching.specs.Travel.{Seen}
+use Rattle.panel.specs.declared.Answer.{Answer}
+use Rattle.panel.specs.declared.commands.Acted.{Acted}
+use Rattle.panel.specs.declared.state.State.{State}
+use Rattle.panel.specs.State.{freshOf}
+use Rattle.panel.specs.Commands.{isTeach, acted, refusalOf, edgeAt, inputOf}
+use Rattle.panel.specs.Step.{answerOf, stepOf}
+
+-- "each gets the state the last returned": the state in the end, and the answers
+unfoldable pub runOf : State → List Event → State
+runOf s [] = s
+runOf s (e ∷ es) = runOf (stepOf s e .state) es
+
+unfoldable pub answersOf : State → List Event → List Answer
+answersOf s [] = []
+answersOf s (e ∷ es) = stepOf s e ∷ answersOf (stepOf s e .state) es
+
+-- the answer last given; before the first event, what the fresh state answers
+unfoldable pub lastOf : Answer → List Answer → Answer
+lastOf a [] = a
+lastOf a (b ∷ bs) = lastOf b bs
+
+abbrev pub lastAnswer : List ℤ → List Event → Answer
+lastAnswer t es = lastOf (answerOf (freshOf t) 0) (answersOf (freshOf t) es)
+
+-- "travel .. the result answered .. and 0 under an error", and condition k + 1, after each event
+abbrev pub counted : Answer → ℤ
+counted a = cond (eqb (errorNumber (a .error)) 0) (a .result) (pos 0)
+
+unfoldable pub seenIn : ℕ → List Answer → List Seen
+seenIn k [] = []
+seenIn k (a ∷ rest) = record { result = counted a; on = switchAt (a .state .switches) k .on } ∷ seenIn k rest
+
+-- ---- a command stores a preselection: a teach, actions 5 to 8, that is not refused
+
+unfoldable pub teaches : ℕ → State → Bool
+teaches a s = isTeach a && eqb (refusalOf a s) 0
+
+-- input i + 1 does so, on what the earlier ones left
+unfoldable pub storesAt : ℕ → ℕ → Acted → Bool
+storesAt l i x = edgeAt (x .state) l i && teaches (action (x .state .table) i) (x .state)
+
+unfoldable pub storedBy : State → Event → Bool
+storedBy s (Telegram w) = false
+storedBy s (Levels l) =
+    leb l 7 && (storesAt l 0 (acted s 0) || (storesAt l 1 (inputOf l 0 (acted s 0)) || storesAt l 2 (inputOf l 1 (inputOf l 0 (acted s 0)))))
+storedBy s (Tick ms) = false
+
+-- some command of the list does
+unfoldable pub stored : State → List Event → Bool
+stored s [] = false
+stored s (e ∷ es) = storedBy s e || stored (stepOf s e .state) es
