@@ -7,3 +7,7 @@ pub mod KeptLaws
 pub mod BookLaws
 pub mod ChangesLaws
 pub mod Demand3Laws
+pub mod Words
+pub mod WordLaws
+pub mod Ran
+pub mod RanLaws

@@ -1,0 +1,46 @@
+-- Both ways of a run give what it promises: a refused table promises nothing, and of a loaded one demand 3 is proved.
+use mathlib.Core.Path.{_≡_, sym, ap, _∙_}
+use mathlib.Core.List.{List}
+use Prim.Native.Nat.{ℕ}
+use borrow.Author.Tests.{eq-eqb, ne-eqb}
+use lib.IntN.{ℤ}
+use Rattle.events.specs.declared.Event.{Event}
+use Rattle.panel.specs.declared.Answer.{Answer}
+use Rattle.panel.specs.declared.Loaded.{Loaded}
+use Rattle.panel.specs.declared.state.State.{State}
+use Rattle.panel.specs.Load.{loadedOf}
+use Rattle.panel.specs.State.{freshOf}
+use Rattle.panel.specs.Step.{answerOf}
+use Rattle.parameters.specs.Load.{loadNumber}
+use Rattle.parameters.specs.LoadLaws.{answer-number, answer-table}
+use Rattle.runs.specs.declared.Ran.{Ran}
+use Rattle.runs.specs.Demand3Laws.{demand3}
+use Rattle.runs.specs.Ran.{ran, ranOf, Promised}
+use Rattle.runs.specs.Run.{answersOf, lastOf, lastAnswer}
+
+-- load's number is the table's
+number-is : (t : List ℤ) → loadedOf t .number ≡ loadNumber t
+unfolding loadedOf
+number-is t = answer-number t
+
+pub refused-run : (t : List ℤ) (es : List Event) → (loadedOf t .number ≡ 0 → ⊥) → ran (loadedOf t .number) (loadedOf t .slot) (answerOf (loadedOf t .state) 0) ≡ ranOf t es
+unfolding ranOf
+refused-run t es n = rw (ne-eqb (loadNumber t) 0 (λ z. n (number-is t ∙ z)))
+
+pub refused-promise : (t : List ℤ) (es : List Event) (r : Ran) → (loadedOf t .number ≡ 0 → ⊥) → Promised t es r
+refused-promise t es r n = record { last = λ z. absurd (n (number-is t ∙ z)); claim = λ z. absurd (n (number-is t ∙ z)) }
+
+-- the run of a loaded table starts from its fresh state
+from-load : (s : State) → List Event → Answer
+from-load s es = lastOf (answerOf s 0) (answersOf s es)
+
+pub loaded-last : (t : List ℤ) (es : List Event) → loadedOf t .number ≡ 0 → lastOf (answerOf (loadedOf t .state) 0) (answersOf (loadedOf t .state) es) ≡ lastAnswer t es
+unfolding loadedOf from-load
+loaded-last t es z = ap (λ (u : List ℤ). from-load (freshOf u) es) (answer-table t (sym (number-is t) ∙ z))
+
+pub loaded-run : (t : List ℤ) (es : List Event) (a : Answer) → loadedOf t .number ≡ 0 → a ≡ lastAnswer t es → ran 0 0 a ≡ ranOf t es
+unfolding ranOf
+loaded-run t es a z e = rw (eq-eqb (loadNumber t) 0 (sym (number-is t) ∙ z)) (ap (ran 0 0) e)
+
+pub loaded-promise : (t : List ℤ) (es : List Event) (a : Answer) → a ≡ lastAnswer t es → Promised t es (ran 0 0 a)
+loaded-promise t es a e = record { last = λ z. e; claim = λ z. demand3 t z es }
