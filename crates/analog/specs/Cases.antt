@@ -1,39 +1,13 @@
--- The paper's analog cases, worked out by the definitions alone. Paper 01, "Places to check", and the codes of "panelrun and its log".
+-- Analog values worked out by the definitions alone: the codes of paper 01, "panelrun and its log", and the ends of each format.
 -- Defaults: format 0, start 0, end 10,000. Assumes nothing.
 use mathlib.Core.Path.{_≡_, refl}
 use lib.IntN.{pos, negsuc}
-use lib.Ieee.{binary32, ofInt, mul, div, add}
+use lib.Ieee.{ofInt, mul, div, add}
 use Rattle.integers.specs.Round.{roundDiv}
 use Rattle.integers.specs.Fraction.{frac}
-use Rattle.analog.specs.declared.Drive.the-variants.{Off, Volts, Milliamps}
+use Rattle.analog.specs.declared.Drive.the-variants.{Off}
 use Rattle.analog.specs.AnalogCode.{codeOf, held}
-use Rattle.analog.specs.Drives.{driveFor, driveOf, floatOf, driveValue}
-
--- P defaults, r = 5,000: code 16,384, exactly 5 V
-pub defaults-code : codeOf 0 (pos 0) (pos 10000) (pos 5000) ≡ pos 16384
-unfolding codeOf held roundDiv
-defaults-code = refl
-
-pub defaults-five-volts : driveValue (driveFor 0 (pos 0) (pos 10000) (pos 5000)) ≡ frac (pos 5) 1
-unfolding codeOf held roundDiv driveOf floatOf ofInt mul div
-defaults-five-volts = refl
-
-pub defaults-volts : driveFor 0 (pos 0) (pos 10000) (pos 5000) ≡ Volts (ofInt binary32 (pos 5))
-unfolding codeOf held roundDiv driveOf floatOf ofInt mul div
-defaults-volts = refl
-
--- P format 2: code 32,768, exactly 12 mA
-pub format-two-code : codeOf 2 (pos 0) (pos 10000) (pos 5000) ≡ pos 32768
-unfolding codeOf held roundDiv
-format-two-code = refl
-
-pub format-two-twelve-milliamps : driveValue (driveFor 2 (pos 0) (pos 10000) (pos 5000)) ≡ frac (pos 12) 1
-unfolding codeOf held roundDiv driveOf floatOf ofInt mul div add
-format-two-twelve-milliamps = refl
-
-pub format-two-milliamps : driveFor 2 (pos 0) (pos 10000) (pos 5000) ≡ Milliamps (ofInt binary32 (pos 12))
-unfolding codeOf held roundDiv driveOf floatOf ofInt mul div add
-format-two-milliamps = refl
+use Rattle.analog.specs.Drives.{driveOf, floatOf, driveValue}
 
 -- panelrun and its log, the worked example: r = 999, 1000, 0, −2
 pub worked-first : codeOf 0 (pos 0) (pos 10000) (pos 999) ≡ pos 3273

@@ -11,3 +11,4 @@ pub mod Words
 pub mod WordLaws
 pub mod Ran
 pub mod RanLaws
+pub mod Places

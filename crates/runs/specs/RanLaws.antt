@@ -1,12 +1,10 @@
 -- Both ways of a run give what it promises: a refused table promises nothing, and of a loaded one demand 3 is proved.
 use mathlib.Core.Path.{_≡_, sym, ap, _∙_}
 use mathlib.Core.List.{List}
-use Prim.Native.Nat.{ℕ}
 use borrow.Author.Tests.{eq-eqb, ne-eqb}
 use lib.IntN.{ℤ}
 use Rattle.events.specs.declared.Event.{Event}
 use Rattle.panel.specs.declared.Answer.{Answer}
-use Rattle.panel.specs.declared.Loaded.{Loaded}
 use Rattle.panel.specs.declared.state.State.{State}
 use Rattle.panel.specs.Load.{loadedOf}
 use Rattle.panel.specs.State.{freshOf}

@@ -1,10 +1,8 @@
 -- Events as words, for lists of events of any kind and content: every event has a word that stands for it.
 -- Above the lower 32 bits of a word stands the kind, 0 telegram, 1 levels, else tick. Assumes nothing.
-use mathlib.Core.Path.{_≡_, refl}
 use mathlib.Core.Bool.{cond}
 use mathlib.Core.List.{List, [], _∷_}
 use Prim.Native.Nat.{ℕ, _+_, _/_, _%_, _<_}
-use native.Mathlib.Omega.{arith}
 use lib.Dec.{eqb}
 use Rattle.events.specs.declared.Event.{Event}
 use Rattle.events.specs.declared.Event.the-variants.{Telegram, Levels, Tick}

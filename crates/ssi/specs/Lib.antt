@@ -2,7 +2,6 @@ pub mod Sound
 pub mod Telegram
 pub mod Builder
 pub mod ReadBack
-pub mod Cases
 pub mod SoundLaws
 pub mod ReadBackLaws
 pub mod PartLaws

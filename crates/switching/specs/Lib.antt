@@ -8,4 +8,3 @@ pub mod ConditionLaws
 pub mod TravelLaws
 pub mod SwitchingLaws
 pub mod OutputLaws
-pub mod Cases

@@ -1,0 +1,128 @@
+-- The cases that paper 01, "Places to check", marks P: one list of what the engine's definitions give and what the paper says, and one proof by computing.
+-- Each case goes the whole way, from a table and events to the answer.
+use mathlib.Core.Path.{_≡_, refl}
+use mathlib.Core.Bool.{cond}
+use mathlib.Core.List.{List, [], _∷_}
+use Prim.Native.Nat.{ℕ}
+use lib.IntN.{ℤ, pos, negsuc}
+use lib.Ieee.{ofInt, mul, div, add}
+use lib.ListN.{set}
+use Rattle.analog.specs.AnalogCode as analog
+use Rattle.analog.specs.Drives as drive
+use Rattle.events.specs.declared.Event.{Event}
+use Rattle.events.specs.declared.Event.the-variants.{Telegram}
+use Rattle.integers.specs.Round.{roundDiv, floorMod}
+use Rattle.measurement.specs.Curve as curve
+use Rattle.measurement.specs.Measure as measure
+use Rattle.panel.specs.Commands as command
+use Rattle.panel.specs.State.{freshOf}
+use Rattle.panel.specs.Step as step
+use Rattle.parameters.specs.Rows as row
+use Rattle.parameters.specs.Slots.{analogFormat, analogStart, analogEnd}
+use Rattle.reading.specs.Reading as reading
+use Rattle.settings.specs.Settings as settings
+use Rattle.ssi.specs.Telegram as ssi
+use Rattle.switching.specs.Condition as condition
+use Rattle.switching.specs.Each.{eachFrom}
+use Rattle.switching.specs.Switching as switching
+use Rattle.runs.specs.Run.{answersOf, lastOf, lastAnswer}
+
+-- ---- tables: the defaults, some slots set
+
+abbrev defaults : List ℤ
+defaults = row.defaultTable
+
+abbrev binary : List ℤ
+binary = set defaults 2 (pos 1)
+
+abbrev withFactor : List ℤ
+withFactor = set binary 10 (pos 150000)
+
+abbrev wide : List ℤ
+wide = set (set binary 0 (pos 32)) 3 (pos 32)
+
+abbrev fourPoints : List ℤ
+fourPoints =
+    set (set (set (set (set (set (set (set binary 13 (pos 2)) 55 (pos 3)) 56 (negsuc 99)) 57 (negsuc 49)) 58 (pos 0)) 59 (pos 0)) 60 (pos 200)) 61 (pos 300)
+
+-- preselection 1: its value, mode and hysteresis
+abbrev preselected : ℤ → ℤ → ℤ → List ℤ
+preselected p m h = set (set (set binary 17 p) 18 m) 19 h
+
+abbrev modeThree : List ℤ
+modeThree = preselected (pos 1000) (pos 3) (pos 10)
+
+abbrev modeFive : List ℤ
+modeFive = preselected (pos 100) (pos 5) (pos 5)
+
+abbrev formatTwo : List ℤ
+formatTwo = set binary 14 (pos 2)
+
+-- ---- what is asked of a table and telegrams
+
+abbrev result : List ℤ → ℕ → ℤ
+result t w = lastAnswer t (Telegram w ∷ []) .result
+
+abbrev note : List ℤ → ℕ → ℤ
+note t w = pos (lastAnswer t (Telegram w ∷ []) .note)
+
+abbrev error : List ℤ → ℕ → ℤ
+error t w = pos (measure.errorNumber (lastAnswer t (Telegram w ∷ []) .error))
+
+-- condition 1 after the last of some telegrams, 1 for on
+abbrev on : List ℤ → List Event → ℤ
+on t es = pos (cond (switching.switchAt (lastAnswer t es .state .switches) 0 .on) 1 0)
+
+abbrev code : List ℤ → ℤ → ℤ
+code t r = analog.codeOf (analogFormat t) (analogStart t) (analogEnd t) r
+
+abbrev upper : List ℤ → ℕ → ℤ
+upper t w = drive.driveValue (lastAnswer t (Telegram w ∷ []) .drive) .num
+
+abbrev lower : List ℤ → ℕ → ℤ
+lower t w = pos (drive.driveValue (lastAnswer t (Telegram w ∷ []) .drive) .den)
+
+-- ---- the list: what the definitions give, and what the paper says
+
+pub record Place : Type 0 where
+  pub got : ℤ
+  pub said : ℤ
+
+abbrev place : ℤ → ℤ → Place
+place g s = record { got = g; said = s }
+
+pub places : List Place
+places =
+    -- defaults: telegram hex 3 reads 2, D reads 9, 1000000 gives 33,554,431; 2000000 is refused, 11
+    place (result defaults 0x3) (pos 2) ∷ place (result defaults 0xd) (pos 9) ∷ place (result defaults 0x1000000) (pos 33554431) ∷ place (note defaults 0x2000000) (pos 11) ∷
+    -- reverse, M = 2^25: 1 becomes 33,554,431, 0 remains 0
+    place (result (set binary 6 (pos 1)) 1) (pos 33554431) ∷ place (result (set binary 6 (pos 1)) 0) (pos 0) ∷
+    -- O = 10, R = 360, p = 5: d = 355
+    place (result (set (set binary 5 (pos 10)) 7 (pos 360)) 5) (pos 355) ∷
+    -- factor 150,000: d = 1, −1, 3 give 2, −2, 5. With A = −2, d = 1 gives 0
+    place (result withFactor 1) (pos 2) ∷ place (result (set withFactor 5 (pos 1)) 0) (negsuc 1) ∷ place (result withFactor 3) (pos 5) ∷ place (result (set withFactor 12 (negsuc 1)) 1) (pos 0) ∷
+    -- four quadrants (−100, −50), (0, 0), (200, 300): v = 3, −1, 201, −150 give 5, −1, 300, −50
+    place (result fourPoints 3) (pos 5) ∷ place (result (set fourPoints 5 (pos 1)) 0) (negsuc 0) ∷ place (result fourPoints 201) (pos 300) ∷ place (result (set fourPoints 5 (pos 150)) 0) (negsuc 49) ∷
+    -- N = H = 32, binary: p = 99,999,999 shows; 100,000,000 is error 1
+    place (result wide 99999999) (pos 99999999) ∷ place (error wide 99999999) (pos 0) ∷ place (error wide 100000000) (pos 1) ∷
+    -- mode 3, P = 1,000, h = 10: 999, 1000, 990, 989 give off, on, on, off
+    place (on modeThree (Telegram 999 ∷ [])) (pos 0) ∷ place (on modeThree (Telegram 999 ∷ Telegram 1000 ∷ [])) (pos 1) ∷
+    place (on modeThree (Telegram 999 ∷ Telegram 1000 ∷ Telegram 990 ∷ [])) (pos 1) ∷ place (on modeThree (Telegram 999 ∷ Telegram 1000 ∷ Telegram 990 ∷ Telegram 989 ∷ [])) (pos 0) ∷
+    -- mode 5, P = 100, h = 5: on from 98 to 102
+    place (on modeFive (Telegram 97 ∷ [])) (pos 0) ∷ place (on modeFive (Telegram 98 ∷ [])) (pos 1) ∷ place (on modeFive (Telegram 102 ∷ [])) (pos 1) ∷ place (on modeFive (Telegram 103 ∷ [])) (pos 0) ∷
+    -- defaults, r = 5,000: code 16,384, exactly 5 V. Format 2: 32,768, exactly 12 mA
+    place (code binary (result binary 5000)) (pos 16384) ∷ place (upper binary 5000) (pos 5) ∷ place (lower binary 5000) (pos 1) ∷
+    place (code formatTwo (result formatTwo 5000)) (pos 32768) ∷ place (upper formatTwo 5000) (pos 12) ∷ place (lower formatTwo 5000) (pos 1) ∷
+    []
+
+abbrev gots : List Place → List ℤ
+gots [] = []
+gots (p ∷ ps) = p .got ∷ gots ps
+
+abbrev saids : List Place → List ℤ
+saids [] = []
+saids (p ∷ ps) = p .said ∷ saids ps
+
+pub checked : gots places ≡ saids places
+unfolding places lastOf answersOf freshOf step.stepOf step.telegramOf step.answerOf step.displayedOf step.switchedOf step.frozen step.freezes command.rereadOf command.notedOf reading.acceptsOf reading.placeOf reading.measuredAt reading.driveAt reading.readingOf settings.layoutOf settings.scalingOf settings.pointsOf settings.preselectionOf settings.preselectionsOf ssi.accepted ssi.errorReported ssi.positionOf ssi.grayDecoded measure.turnedOf measure.distanceOf measure.scaledOf measure.judgedOf measure.usedPoints measure.valueOf measure.measuredOf curve.pointsFrom curve.rightOf curve.fourQuadrants curve.oneQuadrant curve.curve curve.linearizedOf roundDiv floorMod row.defaultTable row.defaultsFrom row.rowAt row.rowOf switching.suppresses switching.releasedOf switching.heldOf switching.pulseOf switching.signalOf switching.activeOf switching.turnedOf switching.lockedOf switching.switchedOf switching.partnerOf switching.switchedAt eachFrom condition.latchedOf condition.onAbove condition.onBelow condition.onNear condition.compared condition.against condition.ruleOf condition.conditionOf condition.exceeds analog.codeOf analog.held drive.driveOf drive.floatOf ofInt mul div add
+checked = refl
