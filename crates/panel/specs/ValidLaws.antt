@@ -73,10 +73,10 @@ by-command a s Q same reset locks extremes teach =
 -- an input acts or does not
 pub by-input : (l i : ℕ) (x : Acted) (Q : State → Type 0) →
     (T (edgeAt (x .state) l i) → Q (commandOf (action (x .state .table) i) (x .state) .state)) →
-    (T (not (edgeAt (x .state) l i)) → Q (x .state)) →
+    Q (x .state) →
     Q (inputOf l i x .state)
 unfolding inputOf
-by-input l i x Q acts rests = by-test (edgeAt (x .state) l i) _ x (λ (y : Acted). Q (y .state)) acts rests
+by-input l i x Q acts rests = by-test (edgeAt (x .state) l i) _ x (λ (y : Acted). Q (y .state)) acts (λ _. rests)
 
 -- an event is refused, or is a telegram, levels or a tick
 pub by-step : (s : State) (e : Event) (Q : State → Type 0) →
@@ -111,7 +111,7 @@ good-command a s g =
     (λ k h _ _. record { table = valid-preselection (g .table) (g .result) k h; result = g .result })
 
 pub good-input : (l i : ℕ) (x : Acted) → Good (x .state) → Good (inputOf l i x .state)
-good-input l i x g = by-input l i x Good (λ _. good-command (action (x .state .table) i) (x .state) g) (λ _. g)
+good-input l i x g = by-input l i x Good (λ _. good-command (action (x .state .table) i) (x .state) g) g
 
 pub good-commands : (s : State) (l : ℕ) → Good s → Good (commandsOf s l .state)
 unfolding commandsOf

@@ -26,10 +26,10 @@ use Rattle.panel.specs.declared.state.State.{State}
 use Rattle.panel.specs.State.{freshOf, withLevels, withTelegram}
 use Rattle.panel.specs.Commands.{errorOf, rereadOf, acted, resetRefusal, resetOf, clearLocksOf, clearExtremesOf, teachOf, refusalOf, carriedOut, commandOf, edgeAt, inputOf, commandsOf}
 use Rattle.panel.specs.Step.{answerOf, switchedOf, displayedOf, settledOf, telegramOf, levelsOf, tickOf, stepOf}
+use Rattle.panel.specs.Valid.{Good}
+use Rattle.panel.specs.ValidLaws.{by-command, good-input, good-step}
 use Rattle.runs.specs.Run.{runOf}
 use Rattle.runs.specs.Book.{Book, freshBook, turnsTo, movesTo, asksReset, bookRefusal, bookInput, bookStep, bookFrom}
-use Rattle.panel.specs.Valid.{Good}
-use Rattle.panel.specs.ValidLaws.{by-command, by-input, good-input, good-step}
 use Rattle.runs.specs.AlikeLaws.{layout-alike, accepts-alike, place-alike, action-alike, config-alike}
 use Rattle.runs.specs.KeptLaws.{Kept, kept-input, kept-step}
 
@@ -103,9 +103,9 @@ module _ {t : List ℤ} {s : State} (g : Good s) (k : Kept t s) where
       never false y n = y
 
 pub book-input : {t : List ℤ} (l i : ℕ) (x : Acted) → Good (x .state) → Kept t (x .state) → bookIn (inputOf l i x .state) ≡ bookInput t l i (bookIn (x .state))
-unfolding bookInput asksReset edgeAt
+unfolding inputOf bookInput asksReset edgeAt
 book-input {t} l i x g k =
-    by-input l i x (λ (u : State). bookIn u ≡ bookInput t l i (bookIn (x .state)))
+    by-test (edgeAt (x .state) l i) _ x (λ (y : Acted). bookIn (y .state) ≡ bookInput t l i (bookIn (x .state)))
     (λ y. rw (← config-alike (k .alike) i, is-true (edgeAt (x .state) l i) y, ← action-alike (k .alike) i) (book-command g k (action (x .state .table) i)))
     (λ n. rw (← config-alike (k .alike) i, is-false (edgeAt (x .state) l i) n))
 

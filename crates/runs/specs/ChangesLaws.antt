@@ -26,19 +26,31 @@ use Rattle.panel.specs.declared.Answer.{Answer}
 use Rattle.panel.specs.declared.commands.Acted.{Acted}
 use Rattle.panel.specs.declared.state.State.{State}
 use Rattle.panel.specs.State.{freshOf, withLevels, withTelegram, withSwitches}
-use Rattle.panel.specs.Commands.{isTeach, rereadOf, acted, resetOf, clearLocksOf, clearExtremesOf, teachOf, refusalOf, commandOf, edgeAt, inputOf, commandsOf}
+use Rattle.panel.specs.Commands.{rereadOf, acted, resetOf, clearLocksOf, clearExtremesOf, isTeach, teachOf, refusalOf, commandOf, edgeAt, inputOf, commandsOf}
 use Rattle.panel.specs.Step.{answerOf, switchedOf, displayedOf, settledOf, telegramOf, levelsOf, tickOf, stepOf}
-use Rattle.runs.specs.Run.{answersOf, counted, seenIn, teaches, storesAt, storedBy, stored}
 use Rattle.panel.specs.ValidLaws.{by-command, by-input, by-step}
-use Rattle.runs.specs.AlikeLaws.{preselections-alike}
+use Rattle.runs.specs.Run.{answersOf, counted, seenIn, teaches, storesAt, storedBy, stored}
+use Rattle.runs.specs.AlikeLaws.{action-alike, preselections-alike}
 use Rattle.runs.specs.RunLaws.{step-own, own-result, own-error}
-use Rattle.runs.specs.KeptLaws.{Kept, kept-step}
+use Rattle.runs.specs.KeptLaws.{Kept, kept-input, kept-step}
 
 -- ---- tests
 
 and-no : (a b : Bool) → T (not (a && b)) → T a → T (not b)
 and-no true b n y = n
 and-no false b n y = absurd y
+
+no-and : (a b : Bool) → T (not b) → T (not (a && b))
+no-and true b n = n
+no-and false b n = tt
+
+no-first : (a b : Bool) → T (not a) → T (not (a && b))
+no-first true b n = absurd n
+no-first false b n = tt
+
+no-or : (a b : Bool) → T (not a) → T (not b) → T (not (a || b))
+no-or true b n m = n
+no-or false b n m = m
 
 both : (a b : Bool) → T a → T b → T (a && b)
 both true b y z = z
@@ -76,7 +88,7 @@ unfolding storesAt
 input-stores l i x n =
     by-input l i x (λ (u : State). preselectionsIn u ≡ preselectionsIn (x .state))
     (λ y. command-stores (action (x .state .table) i) (x .state) (and-no (edgeAt (x .state) l i) (teaches (action (x .state .table) i) (x .state)) n y))
-    (λ _. refl)
+    refl
 
 settled-table : (s : State) → settledOf s .table ≡ s .table
 unfolding switchedOf displayedOf
@@ -106,6 +118,31 @@ step-stores s (Levels l) n =
     x₂ : Acted
     x₂ = inputOf l 1 x₁
 step-stores s (Tick ms) n = refl
+
+-- where no input of the loaded table teaches, no command of any list stores a preselection
+module _ {t : List ℤ} (none : (i : ℕ) → i < 3 → T (not (isTeach (action t i)))) where
+  input-quiet : (l i : ℕ) → i < 3 → (x : Acted) → Kept t (x .state) → T (not (storesAt l i x))
+  unfolding storesAt teaches
+  input-quiet l i h x c =
+      rw (action-alike (c .alike) i)
+      (no-and (edgeAt (x .state) l i) _ (no-first (isTeach (action t i)) _ (none i h)))
+
+  step-quiet : (s : State) (e : Event) → Kept t s → T (not (storedBy s e))
+  unfolding storedBy
+  step-quiet s (Telegram w) c = tt
+  step-quiet s (Levels l) c =
+      let x₀ = acted s 0 in
+      let x₁ = inputOf l 0 x₀ in
+      let c₁ = kept-input t l 0 x₀ c in
+      no-and (leb l 7) _
+      (no-or (storesAt l 0 x₀) _ (input-quiet l 0 (omega arith) x₀ c)
+      (no-or (storesAt l 1 x₁) _ (input-quiet l 1 (omega arith) x₁ c₁) (input-quiet l 2 (omega arith) (inputOf l 1 x₁) (kept-input t l 1 x₁ c₁))))
+  step-quiet s (Tick ms) c = tt
+
+  pub teachless-quiet : (s : State) → Kept t s → (es : List Event) → T (not (stored s es))
+  unfolding stored
+  teachless-quiet s c [] = tt
+  teachless-quiet s c (e ∷ es) = no-or (storedBy s e) _ (step-quiet s e c) (teachless-quiet (stepOf s e .state) (kept-step t c e) es)
 
 -- after each event the preselections ps are in force: all that the bound asks of the commands
 unfoldable pub Unchanged : List Preselection → State → List Event → Type 0
@@ -161,7 +198,7 @@ module _ (k : ℕ) (small : k < 4) where
       (λ j h y z. record { four = q .four; on-same = q .on-same; released-same = q .released-same })
 
   left-input : (l i : ℕ) (s : State) (x : Acted) → Left s (x .state) k → Left s (inputOf l i x .state) k
-  left-input l i s x q = by-input l i x (λ (v : State). Left s v k) (λ _. left-command (action (x .state .table) i) s (x .state) q) (λ _. q)
+  left-input l i s x q = by-input l i x (λ (v : State). Left s v k) (λ _. left-command (action (x .state .table) i) s (x .state) q) q
 
   left-commands : (s : State) (l : ℕ) → length (s .switches) ≡ 4 → Left s (commandsOf s l .state) k
   unfolding commandsOf
@@ -171,7 +208,7 @@ module _ (k : ℕ) (small : k < 4) where
 -- ---- an event turns a condition by the rule of its mode
 
 -- the result that travel counts is the state's
-counted-is : {t : List ℤ} {s : State} → Kept t s → (e : Event) → counted (stepOf s e) ≡ stepOf s e .state .reading .result
+pub counted-is : {t : List ℤ} {s : State} → Kept t s → (e : Event) → counted (stepOf s e) ≡ stepOf s e .state .reading .result
 counted-is {t} {s} c e = rw (own-error (step-own s e), own-result (step-own s e)) (kept-step t c e .zeroed)
 
 module _ (ps : List Preselection) (k : ℕ) (small : k < 4) (hy : T (hysteretic (preselectionAt ps k .mode))) where

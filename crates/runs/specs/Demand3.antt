@@ -15,7 +15,7 @@ use Rattle.parameters.specs.Slots.{linearization, mode, hysteresis, withOffset}
 use Rattle.reading.specs.Reading.{curveAt, slopeAt}
 use Rattle.switching.specs.Travel.{travel, changes, hysteretic}
 use Rattle.panel.specs.State.{freshOf}
-use Rattle.runs.specs.Run.{answersOf, lastAnswer, seenIn, stored}
+use Rattle.runs.specs.Run.{lastAnswer, traceOf, stored}
 use Rattle.runs.specs.Book.{Book, bookOf}
 
 -- L(E), with p and O from the book
@@ -25,11 +25,12 @@ exactAt t b = curveAt (withOffset t (b .offset)) (b .telegram)
 pub record Demand3 (t : List ℤ) (es : List Event) : Type 0 where
   -- once there is a telegram and no error is in force, the result last answered lies within 1/2 + S/2 of L(E)
   pub accurate : T (bookOf t es .seen) → lastAnswer t es .error ≡ Error.None → Accurate (lastAnswer t es .result) (exactAt t (bookOf t es)) (slopeAt t)
-  -- with linearization off S is 0: within 1/2
+  -- with linearization off S is 0, so that it lies within 1/2
   pub half : linearization t ≡ 0 → slopeAt t ≡ record { top = 0; low = 1 }
-  -- where no command stored a preselection, condition k + 1, if its mode has a hysteresis, has changed that often only if the result travelled so far
+  -- condition k + 1, off at first, has changed that often only if the result, 0 at first, travelled so far: in every mode with a hysteresis, where no command
+  -- stored a preselection (a teach moves P to the result, and so turns a condition without travel)
   pub travels : T (not (stored (freshOf t) es)) → (k : ℕ) → k < 4 → T (hysteretic (mode t k)) →
-      (changes false (seenIn k (answersOf (freshOf t) es)) - 1) * (hysteresis t k + 1) ≤ travel (pos 0) (seenIn k (answersOf (freshOf t) es))
+      (changes false (traceOf t es k) - 1) * (hysteresis t k + 1) ≤ travel (pos 0) (traceOf t es k)
 
 -- for every table that loads and every list of events
 abbrev pub Demanded : Type 0

@@ -11,7 +11,7 @@ use Rattle.events.specs.declared.Event.{Event}
 use Rattle.integers.specs.Fraction.{Frac, Ratio, Accurate}
 use Rattle.measurement.specs.declared.Error.the-variants as Error
 use Rattle.measurement.specs.Curve.{steepest}
-use Rattle.parameters.specs.Slots.{offsetSlot, offset, linearization, mode, hysteresis}
+use Rattle.parameters.specs.Slots.{offsetSlot, offset, linearization, action, mode, hysteresis}
 use Rattle.parameters.specs.Stores.{offset-alike, offset-stored}
 use Rattle.parameters.specs.Valid.{Valid, loads}
 use Rattle.reading.specs.declared.Reading.{Reading}
@@ -25,17 +25,18 @@ use Rattle.switching.specs.Travel.{Seen, travel, changes, hysteretic}
 use Rattle.switching.specs.TravelLaws.{Lawful, view, mode-bound}
 use Rattle.panel.specs.declared.state.State.{State}
 use Rattle.panel.specs.State.{freshOf}
+use Rattle.panel.specs.Commands.{isTeach}
 use Rattle.panel.specs.Step.{answerOf}
-use Rattle.runs.specs.Run.{runOf, answersOf, lastAnswer, seenIn, stored}
-use Rattle.runs.specs.Book.{Book, bookOf}
-use Rattle.runs.specs.Demand3.{exactAt, Demanded}
 use Rattle.panel.specs.Valid.{Good}
 use Rattle.panel.specs.ValidLaws.{good-fresh, good-step}
+use Rattle.runs.specs.Run.{runOf, lastAnswer, traceOf, stored}
+use Rattle.runs.specs.Book.{Book, bookOf}
+use Rattle.runs.specs.Demand3.{exactAt, Demanded}
 use Rattle.runs.specs.AlikeLaws.{alike-sym, alike-trans, slope-alike, curve-alike, preselection-at}
 use Rattle.runs.specs.RunLaws.{answer-own, last-state, last-own, own-result, own-error}
 use Rattle.runs.specs.KeptLaws.{Kept, kept-fresh, kept-step}
 use Rattle.runs.specs.BookLaws.{bookIn, book-run, book-fresh}
-use Rattle.runs.specs.ChangesLaws.{Unchanged, quiet-unchanged, fresh-switch, lawful, ready-fresh}
+use Rattle.runs.specs.ChangesLaws.{Unchanged, quiet-unchanged, teachless-quiet, fresh-switch, lawful, ready-fresh}
 
 -- ---- the state in which a run ends
 
@@ -89,7 +90,7 @@ slope-off t e = rw e
 
 -- the bound asks only that after each event the loaded preselections are in force
 pub travels-unchanged : (t : List ℤ) (es : List Event) → Unchanged (preselectionsOf t) (freshOf t) es → (k : ℕ) → k < 4 → T (hysteretic (mode t k)) →
-    (changes false (seenIn k (answersOf (freshOf t) es)) - 1) * (hysteresis t k + 1) ≤ travel (pos 0) (seenIn k (answersOf (freshOf t) es))
+    (changes false (traceOf t es k) - 1) * (hysteresis t k + 1) ≤ travel (pos 0) (traceOf t es k)
 unfolding preselectionOf
 travels-unchanged t es u k small hy =
     subst (λ (p : Preselection). (changes false ss - 1) * (p .hysteresis + 1) ≤ travel (pos 0) ss) at-k
@@ -101,7 +102,7 @@ travels-unchanged t es u k small hy =
     ps = preselectionsOf t
 
     ss : List Seen
-    ss = seenIn k (answersOf (freshOf t) es)
+    ss = traceOf t es k
 
     at-k : preselectionAt ps k ≡ preselectionOf t k
     at-k = preselection-at t k small
@@ -109,9 +110,14 @@ travels-unchanged t es u k small hy =
     hy-at : T (hysteretic (preselectionAt ps k .mode))
     hy-at = subst (λ (p : Preselection). T (hysteretic (p .mode))) (sym at-k) hy
 
-travels-quiet : (t : List ℤ) (es : List Event) → T (not (stored (freshOf t) es)) → Unchanged (preselectionsOf t) (freshOf t) es
+stored-unchanged : (t : List ℤ) (es : List Event) → T (not (stored (freshOf t) es)) → Unchanged (preselectionsOf t) (freshOf t) es
 unfolding freshOf
-travels-quiet t es n = quiet-unchanged (preselectionsOf t) (freshOf t) es n refl
+stored-unchanged t es n = quiet-unchanged (preselectionsOf t) (freshOf t) es n refl
+
+-- in a table without a teach the bound holds of every list
+pub travels-without-teach : (t : List ℤ) → ((i : ℕ) → i < 3 → T (not (isTeach (action t i)))) → (es : List Event) → (k : ℕ) → k < 4 → T (hysteretic (mode t k)) →
+    (changes false (traceOf t es k) - 1) * (hysteresis t k + 1) ≤ travel (pos 0) (traceOf t es k)
+travels-without-teach t none es = travels-unchanged t es (stored-unchanged t es (teachless-quiet none (freshOf t) (kept-fresh t) es))
 
 -- ---- demand 3
 
@@ -120,5 +126,5 @@ demand3 t e es =
     record {
       accurate = accurately (loads t e) es;
       half = slope-off t;
-      travels = λ n. travels-unchanged t es (travels-quiet t es n);
+      travels = λ n. travels-unchanged t es (stored-unchanged t es n);
     }

@@ -24,8 +24,8 @@ use Rattle.panel.specs.declared.commands.Acted.{Acted}
 use Rattle.panel.specs.declared.state.State.{State}
 use Rattle.panel.specs.State.{freshOf, withTable, withLevels, withTelegram}
 use Rattle.panel.specs.Commands.{readAgain, rereadOf, acted, resetOf, clearLocksOf, clearExtremesOf, teachOf, commandOf, inputOf, commandsOf}
-use Rattle.panel.specs.Step.{switchedOf, displayedOf, settledOf, stepOf}
 use Rattle.panel.specs.ValidLaws.{by-command, by-input, by-step}
+use Rattle.panel.specs.Step.{switchedOf, displayedOf, settledOf, stepOf}
 use Rattle.runs.specs.AlikeLaws.{alike-refl, alike-trans, reading-alike}
 
 -- ---- under an error the result is 0
@@ -83,7 +83,7 @@ module _ (t : List ℤ) where
       offset-same k = word-kept (s .table) (preselectionSlot k) (s .reading .result) offsetSlot (λ e. omega arith)
 
   pub kept-input : (l i : ℕ) (x : Acted) → Kept t (x .state) → Kept t (inputOf l i x .state)
-  kept-input l i x g = by-input l i x (Kept t) (λ _. kept-command (action (x .state .table) i) (x .state) g) (λ _. g)
+  kept-input l i x g = by-input l i x (Kept t) (λ _. kept-command (action (x .state .table) i) (x .state) g) g
 
   pub kept-commands : (s : State) (l : ℕ) → Kept t s → Kept t (commandsOf s l .state)
   unfolding commandsOf

@@ -15,7 +15,7 @@ use Rattle.panel.specs.declared.Answer.{Answer}
 use Rattle.panel.specs.declared.commands.Acted.{Acted}
 use Rattle.panel.specs.declared.state.State.{State}
 use Rattle.panel.specs.State.{freshOf}
-use Rattle.panel.specs.Commands.{isTeach, acted, refusalOf, edgeAt, inputOf}
+use Rattle.panel.specs.Commands.{acted, isTeach, refusalOf, edgeAt, inputOf}
 use Rattle.panel.specs.Step.{answerOf, stepOf}
 
 -- "each gets the state the last returned": the state in the end, and the answers
@@ -42,6 +42,10 @@ counted a = cond (eqb (errorNumber (a .error)) 0) (a .result) (pos 0)
 unfoldable pub seenIn : ℕ → List Answer → List Seen
 seenIn k [] = []
 seenIn k (a ∷ rest) = record { result = counted a; on = switchAt (a .state .switches) k .on } ∷ seenIn k rest
+
+-- what the run of a table shows of it
+abbrev pub traceOf : List ℤ → List Event → ℕ → List Seen
+traceOf t es k = seenIn k (answersOf (freshOf t) es)
 
 -- ---- a command stores a preselection: a teach, actions 5 to 8, that is not refused
 
