@@ -1,0 +1,54 @@
+-- `lines::put_drives` meets its contract: the three fields stand one behind the other, and the newline ends the line.
+use mathlib.Core.Path.{_≡_, _∙_}
+use mathlib.Core.List.{[], _∷_, _++_}
+use native.Mathlib.Omega.{arith}
+use lib.ListN.{length-append}
+use mir.Syntax.{w32}
+use Rattle.integers.specs.Int.{bk, back-at}
+use Rattle.lines.specs.Lines.{space, outsText, analogText, codeIn}
+use Rattle.lines.specs.LineLaws.{analog-at-most-19, analog-field-at-most-20}
+use Rattle.lines.specs.PutLaws.{put-both, put-room}
+use Rattle.lines.specs.Fields.{driveFields}
+use borrow.Author.Needs.{needs}
+use Rattle.lines.proofs.put_drives.Statement.{statement}
+use Rattle.lines.proofs.put_drives.Tie as tie
+
+analog-code-requires : tie.Need-analog-code-requires
+analog-code-requires c κs = search needs
+
+put-outs-requires : tie.Need-put-outs-requires
+put-outs-requires c κs = search needs
+
+put-analog-requires : tie.Need-put-analog-requires
+put-analog-requires c κs = search needs
+
+cast-put-natural : tie.Need-cast-put-natural
+cast-put-natural c = search needs
+
+put-natural-requires : tie.Need-put-natural-requires
+put-natural-requires c κs = (put-room (c .before .before .before .before .put-analog .ensures) 20 20 (analog-field-at-most-20 _ _) (put-room (c .before .before .before .before .before .before .before .before .put-outs .ensures) 5 40 (omega arith) (omega arith)), omega arith)
+
+same-length : tie.Need-same-length
+same-length c = search needs
+
+returns : tie.Need-returns
+unfolding driveFields
+returns c = 
+    let a = c .before .before .before .before .before .before .before .before .before .before .before .before .before .before .before .before .args .a in
+    let code = c .before .before .before .before .before .before .before .before .before .before .before .before .before .analog-code in
+    let e : bk w32 (code .result) ≡ codeIn a = back-at w32 (code .result) (code .ok) ∙ code .ensures in
+    let p1 = c .before .before .before .before .before .before .before .before .before .before .before .put-outs .ensures in
+    let p2 = rw e at (c .before .before .before .before .before .before .before .put-analog .ensures) in
+    put-both (put-both p1 p2 (omega arith)) (c .before .before .put-natural .ensures) (simp length-append (omega (arith, analog-at-most-19 (a .drive) (codeIn a))))
+
+pub put-drives-spec : {M : Type 1} → statement M
+put-drives-spec =
+    tie.close
+    (tie.spec
+    analog-code-requires
+    put-outs-requires
+    put-analog-requires
+    cast-put-natural
+    put-natural-requires
+    same-length
+    returns)

@@ -1,0 +1,5 @@
+pub mod Lines
+pub mod Put
+pub mod PutLaws
+pub mod Fields
+pub mod LineLaws

@@ -1,0 +1,192 @@
+// The lines that panelrun prints, each put into a buffer that the caller lends, at a place, with the place behind it as the answer.
+// Uses `decimal` for numbers, `panel` and `events` for what a line tells, `analog` and `parameters` for the analog code.
+use analog::Drive;
+use events::Event;
+use panel::Answer;
+use parameters::slots;
+ghost use mathlib.Core.Path.{_≡_};
+ghost use mathlib.Core.List.{_∷_, [], _++_};
+ghost use Prim.Native.Nat.{_+_, _≤_};
+ghost use lib.IntN.{pos};
+ghost use lib.ListN.{length};
+ghost use Rattle.integers.specs.Int.{Within};
+ghost use Rattle.decimal.specs.Decimal.{largest, textOf};
+ghost use Rattle.lines.specs.Lines.{space, number, kindLetter, levelDigit, outsText, analogText, codeIn, headerLine, eventLine, loadLine, endLine};
+ghost use Rattle.lines.specs.LineLaws.{longest};
+ghost use Rattle.lines.specs.Fields.{valueFields, driveFields};
+ghost use Rattle.lines.specs.Put.{Put};
+
+// The room that any line has in.
+pub const LONGEST: usize = 128;
+
+// The letter of an event's kind.
+fn kind_letter(e: Event) -> u8
+    ensures { λ r. ⌜ r ≡ kindLetter e ⌝ }
+{
+    match e {
+        Event::Telegram(_) => b'T',
+        Event::Levels(_) => b'I',
+        Event::Tick(_) => b'C',
+    }
+}
+
+// The digit of an output's level.
+fn level_digit(high: bool) -> u8
+    ensures { λ r. ⌜ r ≡ levelDigit high ⌝ }
+{
+    if high {
+        return b'1';
+    }
+    b'0'
+}
+
+// The analog code of an answer.
+fn analog_code(a: Answer) -> i32
+    ensures { λ r. ⌜ r ≡ codeIn a ⌝ }
+{
+    let s = a.state;
+    analog::code(
+        parameters::number(&s.table, slots::ANALOG_FORMAT),
+        parameters::word(&s.table, slots::ANALOG_START),
+        parameters::word(&s.table, slots::ANALOG_END),
+        a.result,
+    )
+}
+
+// Puts bytes.
+fn put_bytes(out: &mut [u8], at: usize, bytes: &[u8]) -> usize
+    requires { ⌜ at + length (now bytes) ≤ length (now out) ⌝ }
+    ensures { λ r. ⌜ Put (now (out .entry)) at (now (bytes .entry)) r (now (out .exit)) ⌝ }
+{
+    let mut i: usize = 0;
+    while i < bytes.len() {
+        out[at + i] = bytes[i];
+        i += 1;
+    }
+    at + i
+}
+
+// Puts the text of z and then one byte.
+fn put_number(out: &mut [u8], at: usize, z: i64, after: u8) -> usize
+    requires { ⌜ (at + 20 ≤ length (now out)) × Within largest z ⌝ }
+    ensures { λ r. ⌜ Put (now (out .entry)) at (textOf z ++ (after ∷ [])) r (now (out .exit)) ⌝ }
+{
+    let n = decimal::write(&mut out[at..], z);
+    let end = at + n;
+    out[end] = after;
+    end + 1
+}
+
+// Puts the text of a number that is not negative and then one byte.
+fn put_natural(out: &mut [u8], at: usize, n: u64, after: u8) -> usize
+    requires { ⌜ (at + 20 ≤ length (now out)) × (n ≤ largest) ⌝ }
+    ensures { λ r. ⌜ Put (now (out .entry)) at (number n ++ (after ∷ [])) r (now (out .exit)) ⌝ }
+{
+    put_number(out, at, n as i64, after)
+}
+
+// Puts the text of a signed word and then one byte.
+fn put_word(out: &mut [u8], at: usize, z: i32, after: u8) -> usize
+    requires { ⌜ at + 20 ≤ length (now out) ⌝ }
+    ensures { λ r. ⌜ Put (now (out .entry)) at (textOf z ++ (after ∷ [])) r (now (out .exit)) ⌝ }
+{
+    put_number(out, at, z as i64, after)
+}
+
+// Puts the letter of an event's kind, and a space.
+fn put_kind(out: &mut [u8], at: usize, e: Event) -> usize
+    requires { ⌜ at + 2 ≤ length (now out) ⌝ }
+    ensures { λ r. ⌜ Put (now (out .entry)) at (kindLetter e ∷ space ∷ []) r (now (out .exit)) ⌝ }
+{
+    let text = [kind_letter(e), b' '];
+    put_bytes(out, at, &text)
+}
+
+// Puts the levels of the outputs, and a space.
+fn put_outs(out: &mut [u8], at: usize, outs: [bool; 4]) -> usize
+    requires { ⌜ at + 5 ≤ length (now out) ⌝ }
+    ensures { λ r. ⌜ Put (now (out .entry)) at (outsText outs ++ (space ∷ [])) r (now (out .exit)) ⌝ }
+{
+    let text = [
+        level_digit(outs[0]),
+        level_digit(outs[1]),
+        level_digit(outs[2]),
+        level_digit(outs[3]),
+        b' ',
+    ];
+    put_bytes(out, at, &text)
+}
+
+// Puts the analog code, or off, and a space.
+fn put_analog(out: &mut [u8], at: usize, drive: Drive, code: i32) -> usize
+    requires { ⌜ at + 20 ≤ length (now out) ⌝ }
+    ensures { λ r. ⌜ Put (now (out .entry)) at (analogText drive code ++ (space ∷ [])) r (now (out .exit)) ⌝ }
+{
+    match drive {
+        Drive::Off => put_bytes(out, at, b"off "),
+        Drive::Volts(_) => put_word(out, at, code, b' '),
+        Drive::Milliamps(_) => put_word(out, at, code, b' '),
+    }
+}
+
+// Puts the result, the shown value and the error of an answer, each with a space.
+fn put_values(out: &mut [u8], at: usize, a: Answer) -> usize
+    requires { ⌜ at + 60 ≤ length (now out) ⌝ }
+    ensures { λ r. ⌜ Put (now (out .entry)) at (valueFields a) r (now (out .exit)) ⌝ }
+{
+    let error = a.error;
+    let p1 = put_word(out, at, a.result, b' ');
+    let p2 = put_word(out, p1, a.shown, b' ');
+    put_natural(out, p2, measurement::error_number(error) as u64, b' ')
+}
+
+// Puts the outputs, the analog code and the note of an answer, and ends the line.
+fn put_drives(out: &mut [u8], at: usize, a: Answer) -> usize
+    requires { ⌜ at + 46 ≤ length (now out) ⌝ }
+    ensures { λ r. ⌜ Put (now (out .entry)) at (driveFields a) r (now (out .exit)) ⌝ }
+{
+    let outs = a.outputs;
+    let drive = a.drive;
+    let code = analog_code(a);
+    let p1 = put_outs(out, at, outs);
+    let p2 = put_analog(out, p1, drive, code);
+    put_natural(out, p2, a.note as u64, b'\n')
+}
+
+// Puts the first line, which names the fields.
+pub fn header_line(out: &mut [u8], at: usize) -> usize
+    requires { ⌜ at + longest ≤ length (now out) ⌝ }
+    ensures { λ r. ⌜ Put (now (out .entry)) at headerLine r (now (out .exit)) ⌝ }
+{
+    put_bytes(out, at, b"event kind result shown error outs analog note\n")
+}
+
+// Puts the line of an event, with its count and its answer.
+pub fn event_line(out: &mut [u8], at: usize, count: u64, e: Event, a: Answer) -> usize
+    requires { ⌜ (at + longest ≤ length (now out)) × (count ≤ largest) ⌝ }
+    ensures { λ r. ⌜ Put (now (out .entry)) at (eventLine count e a) r (now (out .exit)) ⌝ }
+{
+    let p1 = put_natural(out, at, count, b' ');
+    let p2 = put_kind(out, p1, e);
+    let p3 = put_values(out, p2, a);
+    put_drives(out, p3, a)
+}
+
+// Puts the line of a refused table.
+pub fn load_line(out: &mut [u8], at: usize, refusal: u32, slot: usize) -> usize
+    requires { ⌜ (at + longest ≤ length (now out)) × (slot ≤ largest) ⌝ }
+    ensures { λ r. ⌜ Put (now (out .entry)) at (loadLine refusal slot) r (now (out .exit)) ⌝ }
+{
+    let p1 = put_bytes(out, at, b"load ");
+    let p2 = put_natural(out, p1, refusal as u64, b' ');
+    put_natural(out, p2, slot as u64, b'\n')
+}
+
+// Puts the last line.
+pub fn end_line(out: &mut [u8], at: usize, refusal: u8) -> usize
+    requires { ⌜ at + longest ≤ length (now out) ⌝ }
+    ensures { λ r. ⌜ Put (now (out .entry)) at (endLine refusal) r (now (out .exit)) ⌝ }
+{
+    let p1 = put_bytes(out, at, b"end ");
+    put_natural(out, p1, refusal as u64, b'\n')
+}

@@ -1,0 +1,57 @@
+-- An input of fewer than 416 bytes has fewer than 104 table words, and is refused with 1.
+use mathlib.Core.Path.{_≡_, refl, sym, ap, _∙_}
+use mathlib.Core.Bool.{Bool, true, false, cond}
+use mathlib.Core.List.{List, [], _∷_, map}
+use Prim.Native.Nat.{ℕ, _+_, _*_, _≤_, _<_}
+use native.Mathlib.Omega.{arith}
+use borrow.Author.Tests.{eqb-true, ltb-true}
+use lib.Dec.{eqb}
+use lib.IntN.{ℤ}
+use lib.ListN.{length, take, length-map, length-take}
+use lib.Seq.{take-all}
+use Rattle.events.specs.Bytes.{wordsIn}
+use Rattle.parameters.specs.Load.{slotOut, conditions, condition, loadNumber, loadSlot}
+use Rattle.parameters.specs.LoadLaws.{load-length, number-only, answer-slot}
+use Rattle.parameters.specs.Rows.{lowestOut, defaultTable}
+use Rattle.panel.specs.declared.Loaded.{Loaded}
+use Rattle.panel.specs.Load.{loadedOf}
+use Rattle.panel.specs.State.{freshOf}
+use Rattle.logrun.specs.Input.{signedOf, tableBytes, tableOf}
+
+-- four bytes a word
+pub words-length : (bytes : List ℕ) → 4 * length (wordsIn bytes) ≤ length bytes
+unfolding wordsIn
+words-length [] = omega arith
+words-length (a ∷ []) = omega arith
+words-length (a ∷ (b ∷ [])) = omega arith
+words-length (a ∷ (b ∷ (c ∷ []))) = omega arith
+words-length (a ∷ (b ∷ (c ∷ (d ∷ bytes)))) = omega (arith, words-length bytes)
+
+-- what a load answers to any other number of words than 104
+abbrev pub noTable : Loaded
+noTable = record { number = 1; slot = 0; state = freshOf defaultTable }
+
+pub not-104-words : (t : List ℤ) → (length t ≡ 104 → ⊥) → loadedOf t ≡ noTable
+unfolding loadedOf
+not-104-words t n = rw (load-length t n)
+
+-- "Fewer than 416 bytes give number 1"
+pub short-input : (input : List ℕ) → length input < tableBytes → loadedOf (tableOf input) ≡ noTable
+unfolding tableOf
+short-input input h = not-104-words (map signedOf (wordsIn (take tableBytes input))) (λ e. omega (arith, few, sym (length-map (wordsIn (take tableBytes input)) signedOf) ∙ e))
+  where
+    few : length (wordsIn (take tableBytes input)) < 104
+    few = rw (take-all tableBytes input (omega arith)) (omega (arith, words-length input))
+
+-- the slot that a refused load names is one of the table's
+named-small : (t : List ℤ) → loadNumber t ≡ 2 → lowestOut t < 104
+unfolding condition conditions slotOut
+named-small t e = ltb-true (lowestOut t) 104 (number-only t 2 (omega arith) e .own)
+
+pub slot-small : (t : List ℤ) → loadedOf t .slot ≤ 104
+unfolding loadedOf loadSlot
+slot-small t = rw (answer-slot t) (by (eqb (loadNumber t) 2) refl)
+  where
+    by : (b : Bool) → eqb (loadNumber t) 2 ≡ b → cond b (lowestOut t) 0 ≤ 104
+    by true e = omega (arith, named-small t (eqb-true (loadNumber t) 2 e))
+    by false e = omega arith

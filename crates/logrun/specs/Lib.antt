@@ -1,0 +1,7 @@
+pub mod Input
+pub mod Progress
+pub mod Output
+pub mod InputLaws
+pub mod ProgressLaws
+pub mod PieceLaws
+pub mod OutputLaws

@@ -1,0 +1,36 @@
+-- THE MEANING of panelrun: the bytes that it prints for the bytes of its standard input.
+-- Paper 01, "panelrun and its log". Assumes nothing.
+use mathlib.Core.Bool.{cond}
+use mathlib.Core.List.{List, [], _∷_, _++_}
+use Prim.Native.Nat.{ℕ}
+use lib.Dec.{eqb}
+use Rattle.events.specs.declared.Event.{Event}
+use Rattle.events.specs.Log.{Log}
+use Rattle.events.specs.Bytes.{logOfBytes}
+use Rattle.lines.specs.Lines.{headerLine, eventLine, loadLine, endLine}
+use Rattle.panel.specs.declared.Loaded.{Loaded}
+use Rattle.panel.specs.declared.state.State.{State}
+use Rattle.panel.specs.Load.{loadedOf}
+use Rattle.panel.specs.Step.{stepOf}
+use Rattle.logrun.specs.Input.{tableOf, logBytes}
+use Rattle.logrun.specs.Progress.{counted}
+
+-- "each gets the state the last returned": the lines of events from a state on, behind so many events
+unfoldable pub linesOf : ℕ → State → List Event → List ℕ
+linesOf count s [] = []
+linesOf count s (e ∷ es) = eventLine (counted count) e (stepOf s e) ++ linesOf (counted count) (stepOf s e .state) es
+
+-- a loaded table: the header, the lines of the log's events, and the end with the log's number
+unfoldable pub runText : State → Log → List ℕ
+runText s log = headerLine ++ linesOf 0 s (log .events) ++ endLine (log .number)
+
+-- "A refused table prints only `load`, number, slot"
+abbrev pub outputFor : Loaded → Log → List ℕ
+outputFor l log = cond (eqb (l .number) 0) (runText (l .state) log) (loadLine (l .number) (l .slot))
+
+-- what is printed for the table alone: the header, or the line of its refusal
+unfoldable pub openingText : Loaded → List ℕ
+openingText l = cond (eqb (l .number) 0) headerLine (loadLine (l .number) (l .slot))
+
+unfoldable pub outputOf : List ℕ → List ℕ
+outputOf input = outputFor (loadedOf (tableOf input)) (logOfBytes (logBytes input))
