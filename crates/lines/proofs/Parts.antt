@@ -1,9 +1,8 @@
 -- A text written in the part of a buffer that starts at a place, and the byte behind it, are the text and the byte put there.
 use Prim.Native.Nat.{ℕ, suc, _+_, _-_, _≤_, _<_}
-use mathlib.Core.Path.{_≡_, refl, sym, ap, _∙_}
+use mathlib.Core.Path.{_≡_}
 use mathlib.Core.List.{List, [], _∷_, _++_, append-assoc, append-nil}
 use native.Mathlib.Omega.{arith}
-use native.Mathlib.Nat.{add-assoc}
 use lib.ListN.{length, getD, take, drop, set, length-append, length-drop, drop-of-length-le}
 use lib.Seq.{take-all, drop-drop, drop-cons, set-at, length-take-le}
 use borrow.Rule.Slice.PartMut.{putMid}

@@ -1,6 +1,5 @@
 -- No line has more than 128 bytes.
-use mathlib.Core.Path.{_≡_}
-use mathlib.Core.List.{List, [], _∷_, _++_}
+use mathlib.Core.List.{[], _∷_, _++_}
 use Prim.Native.Nat.{ℕ, _+_, _≤_}
 use native.Mathlib.Omega.{arith}
 use lib.IntN.{ℤ, pos}
@@ -12,7 +11,7 @@ use Rattle.decimal.specs.DecimalLaws.{text-at-most-19}
 use Rattle.events.specs.declared.Event.{Event}
 use Rattle.measurement.specs.Measure.{errorNumber}
 use Rattle.panel.specs.declared.Answer.{Answer}
-use Rattle.lines.specs.Lines.{space, number, analogText, codeIn, headerLine, eventLine, loadLine, endLine}
+use Rattle.lines.specs.Lines.{space, analogText, codeIn, headerLine, eventLine, loadLine, endLine}
 use Rattle.lines.specs.Fields.{valueFields}
 
 -- the most bytes that a line has

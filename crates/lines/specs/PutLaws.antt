@@ -1,12 +1,12 @@
 -- Two texts put one behind the other are one text put; and what a buffer holds before and behind a text.
-use mathlib.Core.Path.{_≡_, refl, sym, ap, _∙_}
-use mathlib.Core.List.{List, [], _∷_, _++_, append-assoc, append-nil}
+use mathlib.Core.Path.{_≡_, sym, ap, _∙_}
+use mathlib.Core.List.{List, [], _++_, append-assoc, append-nil}
 use Prim.Native.Nat.{ℕ, _+_, _≤_}
 use native.Mathlib.Omega.{arith}
-use native.Mathlib.Nat.{add-assoc, add-zero}
-use lib.ListN.{length, take, drop, length-append, length-take, length-drop, take-append-drop}
-use lib.Seq.{length-take-le, take-at, drop-at, drop-append-add, drop-drop, drop-append-le}
-use Rattle.lines.specs.Put.{putAt, Put}
+use native.Mathlib.Nat.{add-zero}
+use lib.ListN.{length, take, drop, length-append, length-drop, take-append-drop}
+use lib.Seq.{length-take-le, take-at, drop-at, drop-drop}
+use Rattle.lines.specs.Put.{Put}
 
 module _ {buffer after : List ℕ} {at end : ℕ} {text : List ℕ} (p : Put buffer at text end after) (fits : at + length text ≤ length buffer) where
   front : length (take at buffer ++ text) ≡ end

@@ -7,7 +7,6 @@ use parameters::slots;
 ghost use mathlib.Core.Path.{_≡_};
 ghost use mathlib.Core.List.{_∷_, [], _++_};
 ghost use Prim.Native.Nat.{_+_, _≤_};
-ghost use lib.IntN.{pos};
 ghost use lib.ListN.{length};
 ghost use Rattle.integers.specs.Int.{Within};
 ghost use Rattle.decimal.specs.Decimal.{largest, textOf};

@@ -1,11 +1,11 @@
 -- What one turn of each loop does: a word of a piece is fed and its line put behind the lines so far; a word of the table is stored.
-use mathlib.Core.Path.{_≡_, refl, sym, ap, _∙_}
-use mathlib.Core.List.{List, [], _∷_, _++_, map, append-assoc, append-nil}
-use Prim.Native.Nat.{ℕ, suc, _+_, _*_, _≤_, _<_}
+use mathlib.Core.Path.{_≡_, sym, _∙_}
+use mathlib.Core.List.{List, _++_, map, append-assoc, append-nil}
+use Prim.Native.Nat.{ℕ, _+_, _*_, _≤_, _<_}
 use native.Mathlib.Omega.{arith}
 use native.Mathlib.Numerals.{add-one}
 use lib.IntN.{ℤ}
-use lib.ListN.{length, getD, take, drop, set, take-append-drop, length-take}
+use lib.ListN.{length, take, drop, set, take-append-drop, length-take}
 use lib.Seq.{length-take-le, drop-drop, take-suc-set, getD-take, take-all}
 use Rattle.events.specs.Bytes.{wordsIn}
 use Rattle.events.specs.ByteLaws.{wordFrom, words-next, words-done}

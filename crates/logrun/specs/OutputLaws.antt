@@ -1,23 +1,22 @@
 -- What the functions put for a whole input, in whatever pieces it comes, is what panelrun means: `output-in-pieces`.
 use mathlib.Core.Path.{_≡_, refl, sym, ap, _∙_}
-use mathlib.Core.Bool.{Bool, true, false, cond}
-use mathlib.Core.List.{List, [], _∷_, _++_, append-assoc, append-nil}
-use mathlib.Core.Logic.{_⊎_, inl, inr}
-use Prim.Native.Nat.{ℕ, _+_, _≤_, _<_}
+use mathlib.Core.Bool.{false}
+use mathlib.Core.List.{List, [], _∷_, _++_, append-assoc}
+use mathlib.Core.Logic.{inl, inr}
+use Prim.Native.Nat.{ℕ, _+_, _<_}
 use native.Mathlib.Omega.{arith}
 use borrow.Author.Tests.{eq-eqb, ne-eqb}
 use lib.Dec.{eqb}
-use lib.ListN.{length, take, drop}
+use lib.ListN.{length}
 use lib.Seq.{take-at, drop-at, take-all}
-use Rattle.events.specs.declared.Event.{Event}
 use Rattle.events.specs.declared.Pending.{Pending}
 use Rattle.events.specs.declared.Taken.{Taken}
 use Rattle.events.specs.declared.Taken.the-variants.{Happened, Nothing, Refused}
 use Rattle.events.specs.Bytes.{wordsIn, leftOver, logOfBytes}
-use Rattle.events.specs.Log.{freshPending, wordOf, endOf, Log, before, logFrom, logOf}
+use Rattle.events.specs.Log.{wordOf, endOf, Log, before, logFrom}
 use Rattle.events.specs.LogLaws.{log-word, log-end, log-start}
 use Rattle.events.specs.WordLaws.{Reason, word-reason}
-use Rattle.lines.specs.Lines.{headerLine, eventLine, loadLine, endLine}
+use Rattle.lines.specs.Lines.{headerLine, eventLine, endLine}
 use Rattle.panel.specs.declared.Loaded.{Loaded}
 use Rattle.panel.specs.declared.state.State.{State}
 use Rattle.panel.specs.Load.{loadedOf}
@@ -25,10 +24,10 @@ use Rattle.panel.specs.Step.{stepOf}
 use Rattle.logrun.specs.declared.Progress.{Progress}
 use Rattle.logrun.specs.Input.{tableBytes, tableOf, logBytes}
 use Rattle.logrun.specs.Progress.{counted, startOf, afterTaken, textTaken, wordFed, wordText, wordsFed, wordsText, finishedOf}
-use Rattle.logrun.specs.Output.{linesOf, runText, openingText, outputFor, outputOf}
+use Rattle.logrun.specs.Output.{linesOf, runText, openingText, outputOf}
 use Rattle.logrun.specs.InputLaws.{short-input}
 use Rattle.logrun.specs.ProgressLaws.{fed-running, text-running, words-fed-ended, words-text-ended}
-use Rattle.logrun.specs.PieceLaws.{Whole, AllWhole, joined, piecesFed, piecesText, all-fed, all-text, all-left}
+use Rattle.logrun.specs.PieceLaws.{AllWhole, joined, piecesFed, piecesText, all-fed, all-text, all-left}
 
 -- a word's refusal is not 0
 refused-some : (p : Pending) (w n : ℕ) → wordOf p w .taken ≡ Refused n → eqb n 0 ≡ false

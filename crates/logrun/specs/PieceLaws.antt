@@ -1,13 +1,13 @@
 -- A log fed in pieces of whole words gives what it gives fed at once: the cut does not matter.
-use mathlib.Core.Path.{_≡_, refl, sym, ap, _∙_}
-use mathlib.Core.List.{List, [], _∷_, _++_, append-assoc, append-nil}
-use Prim.Native.Nat.{ℕ, suc, _+_, _*_, _%_}
+use mathlib.Core.Path.{_≡_, refl, ap, _∙_}
+use mathlib.Core.List.{List, [], _∷_, _++_, append-assoc}
+use Prim.Native.Nat.{ℕ, _+_}
 use native.Mathlib.Omega.{arith}
-use lib.ListN.{length, length-append}
+use lib.ListN.{length-append}
 use Rattle.events.specs.Words.{wordAt}
 use Rattle.events.specs.Bytes.{wordsIn, leftOver}
 use Rattle.logrun.specs.declared.Progress.{Progress}
-use Rattle.logrun.specs.Progress.{wordFed, wordText, wordsFed, wordsText}
+use Rattle.logrun.specs.Progress.{wordFed, wordsFed, wordsText}
 
 -- ---- words
 pub fed-both : (p : Progress) (a b : List ℕ) → wordsFed p (a ++ b) ≡ wordsFed (wordsFed p a) b

@@ -5,7 +5,6 @@ use mathlib.Core.List.{List, [], _∷_, _++_}
 use Prim.Native.Nat.{ℕ, _+_, _≤_}
 use lib.Dec.{eqb, ltb}
 use Rattle.decimal.specs.Decimal.{largest}
-use Rattle.events.specs.declared.Event.{Event}
 use Rattle.events.specs.declared.Pending.{Pending}
 use Rattle.events.specs.declared.Taken.{Taken}
 use Rattle.events.specs.declared.Taken.the-variants.{Happened, Nothing, Refused}

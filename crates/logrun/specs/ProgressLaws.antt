@@ -1,14 +1,13 @@
 -- Laws of one word and of the words of a piece: a run stays valid, a word prints at most one line, and a refusal ends the run.
-use mathlib.Core.Path.{_≡_, refl, sym, ap, _∙_}
+use mathlib.Core.Path.{_≡_, refl, ap, _∙_}
 use mathlib.Core.Bool.{Bool, true, false, cond}
-use mathlib.Core.List.{List, [], _∷_, _++_, append-assoc, append-nil}
+use mathlib.Core.List.{List, [], _∷_, _++_}
 use Prim.Native.Nat.{ℕ, _+_, _≤_, _<_}
 use native.Mathlib.Omega.{arith}
 use borrow.Author.Tests.{ltb-true}
 use lib.Dec.{eqb, ltb}
 use lib.ListN.{length, drop}
 use Rattle.decimal.specs.Decimal.{largest}
-use Rattle.events.specs.declared.Event.{Event}
 use Rattle.events.specs.declared.Pending.{Pending}
 use Rattle.events.specs.declared.Step.{Step}
 use Rattle.events.specs.declared.Taken.{Taken}
@@ -18,7 +17,6 @@ use Rattle.events.specs.ByteLaws.{wordFrom, words-next, words-done}
 use Rattle.events.specs.Log.{wordOf}
 use Rattle.lines.specs.LineLaws.{longest, event-line-at-most}
 use Rattle.panel.specs.Step.{stepOf}
-use Rattle.panel.specs.Valid.{Good}
 use Rattle.panel.specs.ValidLaws.{good-step}
 use Rattle.logrun.specs.declared.Progress.{Progress}
 use Rattle.logrun.specs.Progress.{counted, afterTaken, textTaken, wordFed, wordText, wordsFed, wordsText, Ready}

@@ -1,5 +1,6 @@
 -- The commands of the three inputs: each acts on what the earlier ones left, and a refused one changes nothing.
 -- Paper 01, "Events and inputs", second paragraph, and "Where each check sits", command. Assumes nothing.
+use mathlib.Core.List.{List}
 use mathlib.Core.Bool.{Bool, true, cond, not, _&&_, _||_}
 use Prim.Native.Nat.{ℕ, _-_, _/_, _%_, _^_}
 use lib.Dec.{eqb, leb, ltb}
@@ -108,9 +109,16 @@ onRise c = eqb c 1 || eqb c 2
 unfoldable pub actsOn : ℕ → Bool → Bool → Bool
 actsOn c was is = cond (onRise c) (not was && is) (was && not is)
 
--- whether new levels l make input i + 1 act
+-- whether a change of levels makes input i + 1 act, and of those in a state
+abbrev pub edgeIn : List ℤ → ℕ → ℕ → ℕ → Bool
+edgeIn t was l i = actsOn (config t i) (highAt was i) (highAt l i)
+
 unfoldable pub edgeAt : State → ℕ → ℕ → Bool
-edgeAt s l i = actsOn (config (s .table) i) (highAt (s .levels) i) (highAt l i)
+edgeAt s l i = edgeIn (s .table) (s .levels) l i
+
+-- whether it makes none act
+abbrev pub noEdge : List ℤ → ℕ → ℕ → Bool
+noEdge t was l = not (edgeIn t was l 0) && (not (edgeIn t was l 1) && not (edgeIn t was l 2))
 
 -- "the note is that of the lowest refused input"
 abbrev pub firstNote : ℕ → ℕ → ℕ

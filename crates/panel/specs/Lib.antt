@@ -4,3 +4,4 @@ pub mod Step
 pub mod Load
 pub mod Valid
 pub mod ValidLaws
+pub mod CommandLaws

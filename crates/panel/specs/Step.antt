@@ -10,6 +10,7 @@ use Rattle.events.specs.declared.Event.the-variants.{Telegram, Levels, Tick}
 use Rattle.parameters.specs.Slots.{action, config}
 use Rattle.reading.specs.Reading.{acceptsOf}
 use Rattle.settings.specs.Settings.{preselectionsOf}
+use Rattle.switching.specs.declared.Switch.{Switch}
 use Rattle.switching.specs.Outputs.{outputsOf}
 use Rattle.switching.specs.Switching.{allSwitched, allTicked}
 use Rattle.panel.specs.declared.state.State.{State}
@@ -35,8 +36,11 @@ answerOf s note =
 -- ---- after the commands
 
 -- Switching, "After each telegram or levels event, once a telegram was accepted"
+unfoldable pub switchesAfter : Bool → List ℤ → ℤ → List Switch → List Switch
+switchesAfter seen t r ss = cond seen (allSwitched (preselectionsOf t) r ss) ss
+
 unfoldable pub switchedOf : State → State
-switchedOf s = cond (s .seen) (withSwitches s (allSwitched (preselectionsOf (s .table)) (s .reading .result) (s .switches))) s
+switchedOf s = withSwitches s (switchesAfter (s .seen) (s .table) (s .reading .result) (s .switches))
 
 -- "Freeze lasts while, after the event, any input set to it is low (config 0) or high (config 1)"
 unfoldable pub freezes : List ℤ → ℕ → ℕ → Bool
@@ -46,8 +50,11 @@ unfoldable pub frozen : List ℤ → ℕ → Bool
 frozen t l = freezes t l 0 || (freezes t l 1 || freezes t l 2)
 
 -- "It holds the shown value as it was before the event and nothing else. Without freeze, shown equals result"
+unfoldable pub shownAfter : List ℤ → ℕ → ℤ → ℤ → ℤ
+shownAfter t l shown result = cond (frozen t l) shown result
+
 unfoldable pub displayedOf : State → State
-displayedOf s = withShown s (cond (frozen (s .table) (s .levels)) (s .shown) (s .reading .result))
+displayedOf s = withShown s (shownAfter (s .table) (s .levels) (s .shown) (s .reading .result))
 
 abbrev pub settledOf : State → State
 settledOf s = displayedOf (switchedOf s)

@@ -2,7 +2,7 @@
 -- A reset stores a position up to Z, a teach stores the result, and nothing else writes the table. Paper 01, "Events and inputs".
 -- First the cases of a command, an input and an event, as laws for any claim about the state they leave.
 use mathlib.Core.Path.{_≡_}
-use mathlib.Core.Bool.{Bool, true, false, not, _&&_, _||_}
+use mathlib.Core.Bool.{Bool, true, false, cond, not, _&&_, _||_}
 use mathlib.Core.List.{List}
 use Prim.Native.Nat.{ℕ, _-_, _≤_, _<_}
 use native.Mathlib.Omega.{arith}
@@ -19,13 +19,15 @@ use Rattle.parameters.specs.Valid.{Valid}
 use Rattle.reading.specs.Reading.{acceptsOf, placeOf}
 use Rattle.reading.specs.ReadingLaws.{result-within}
 use Rattle.switching.specs.Switching.{allTicked}
+use Rattle.settings.specs.Settings.{preselectionsOf}
+use Rattle.switching.specs.Switching.{allSwitched}
 use Rattle.panel.specs.declared.Answer.{Answer}
 use Rattle.panel.specs.declared.commands.Acted.{Acted}
 use Rattle.panel.specs.declared.state.State.{State}
 use Rattle.panel.specs.State.{freshOf, withTable, withLevels, withTelegram, withSwitches}
 use Rattle.panel.specs.Commands.{errorOf, rereadOf, acted, resetRefusal, resetOf, clearLocksOf, clearExtremesOf, isTeach, teachOf, refusalOf, carriedOut, commandOf, edgeAt, inputOf, commandsOf}
 use Rattle.panel.specs.Valid.{Good}
-use Rattle.panel.specs.Step.{answerOf, switchedOf, displayedOf, settledOf, telegramOf, levelsOf, tickOf, stepOf}
+use Rattle.panel.specs.Step.{answerOf, switchesAfter, switchedOf, displayedOf, settledOf, telegramOf, levelsOf, tickOf, stepOf}
 
 -- ---- the cases
 
@@ -117,9 +119,20 @@ pub good-commands : (s : State) (l : ℕ) → Good s → Good (commandsOf s l .s
 unfolding commandsOf
 good-commands s l g = good-input l 2 (inputOf l 1 (inputOf l 0 (acted s 0))) (good-input l 1 (inputOf l 0 (acted s 0)) (good-input l 0 (acted s 0) g))
 
+-- switching, before and after the first telegram
+pub by-switched : (s : State) (Q : State → Type 0) →
+    (T (s .seen) → Q (withSwitches s (allSwitched (preselectionsOf (s .table)) (s .reading .result) (s .switches)))) → (T (not (s .seen)) → Q s) → Q (switchedOf s)
+unfolding switchedOf switchesAfter
+by-switched s Q f g = go (s .seen) f g
+  where
+    go : (b : Bool) → (T b → Q (withSwitches s (allSwitched (preselectionsOf (s .table)) (s .reading .result) (s .switches)))) → (T (not b) → Q s) →
+        Q (withSwitches s (cond b (allSwitched (preselectionsOf (s .table)) (s .reading .result) (s .switches)) (s .switches)))
+    go true f g = f tt
+    go false f g = g tt
+
 pub good-switched : (s : State) → Good s → Good (switchedOf s)
 unfolding switchedOf
-good-switched s g = by-test (s .seen) _ s Good (λ _. record { table = g .table; result = g .result }) (λ _. g)
+good-switched s g = record { table = g .table; result = g .result }
 
 pub good-settled : (s : State) → Good s → Good (settledOf s)
 unfolding displayedOf

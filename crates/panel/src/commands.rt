@@ -10,7 +10,7 @@ ghost use mathlib.Core.Path.{_≡_};
 ghost use Prim.Native.Nat.{_<_, _≤_};
 ghost use lib.Signed.{ltZ};
 ghost use Rattle.integers.specs.Limit.{Z};
-ghost use Rattle.panel.specs.Commands.{errorIn, notedOf, rereadOf, resetRefusal, resetOf, clearLocksOf, extremesAt, clearExtremesOf, isTeach, teachRefusal, teachOf, refusalOf, carriedOut, commandOf, highAt, onRise, actsOn, edgeAt, firstNote, inputOf, commandsOf};
+ghost use Rattle.panel.specs.Commands.{errorIn, notedOf, rereadOf, resetRefusal, resetOf, clearLocksOf, extremesAt, clearExtremesOf, isTeach, teachRefusal, teachOf, refusalOf, carriedOut, commandOf, highAt, onRise, actsOn, edgeIn, noEdge, firstNote, inputOf, commandsOf};
 ghost use Rattle.reading.specs.Reading.{placeOf};
 ghost use Rattle.panel.specs.Valid.{Good};
 
@@ -248,13 +248,26 @@ fn acts_on(config: u32, was: bool, is: bool) -> bool
     false
 }
 
-// Whether new levels make input i + 1 act.
-fn edge(s: State, levels: u8, i: usize) -> bool
+// Whether a change of levels makes input i + 1 act.
+fn edge(t: &[i32; 104], was: u8, levels: u8, i: usize) -> bool
     requires { ⌜ i < 3 ⌝ }
-    ensures { λ r. ⌜ r ≡ edgeAt s levels i ⌝ }
+    ensures { λ r. ⌜ r ≡ edgeIn (now (t .entry)) was levels i ⌝ }
 {
-    let config = number(&s.table, slots::CONFIG + slots::INPUT_STRIDE * i);
-    acts_on(config, high_at(s.levels, i), high_at(levels, i))
+    let config = number(t, slots::CONFIG + slots::INPUT_STRIDE * i);
+    acts_on(config, high_at(was, i), high_at(levels, i))
+}
+
+// Whether a change of levels makes no input act.
+fn no_edge(t: &[i32; 104], was: u8, levels: u8) -> bool
+    ensures { λ r. ⌜ r ≡ noEdge (now (t .entry)) was levels ⌝ }
+{
+    if edge(t, was, levels, 0) {
+        return false;
+    }
+    if edge(t, was, levels, 1) {
+        return false;
+    }
+    !edge(t, was, levels, 2)
 }
 
 // The note of the lowest refused input.
@@ -273,7 +286,7 @@ fn input(x: Acted, levels: u8, i: usize) -> Acted
     ensures { λ r. ⌜ r ≡ inputOf levels i x ⌝ }
 {
     let s = x.state;
-    if edge(s, levels, i) {
+    if edge(&s.table, s.levels, levels, i) {
         let y = command(number(&s.table, slots::ACTION + slots::INPUT_STRIDE * i), s);
         let note = first_note(x.note, y.note);
         let next = y.state;
@@ -287,6 +300,9 @@ pub fn commands(s: State, levels: u8) -> Acted
     requires { ⌜ Good s ⌝ }
     ensures { λ r. ⌜ r ≡ commandsOf s levels ⌝ }
 {
+    if no_edge(&s.table, s.levels, levels) {
+        return Acted { state: s, note: 0 };
+    }
     let x = input(Acted { state: s, note: 0 }, levels, 0);
     let y = input(x, levels, 1);
     input(y, levels, 2)

@@ -9,10 +9,11 @@ use measurement::Error;
 use parameters::number;
 use parameters::slots;
 use state::State;
+use switching::Switch;
 ghost use mathlib.Core.Path.{_≡_};
 ghost use Prim.Native.Nat.{_<_};
 ghost use Rattle.panel.specs.Load.{loadedOf};
-ghost use Rattle.panel.specs.Step.{answerOf, switchedOf, freezes, frozen, displayedOf, telegramOf, levelsOf, tickOf, stepOf};
+ghost use Rattle.panel.specs.Step.{answerOf, switchesAfter, freezes, frozen, shownAfter, telegramOf, levelsOf, tickOf, stepOf};
 ghost use Rattle.panel.specs.Valid.{Good};
 
 // The answer to an event.
@@ -51,17 +52,14 @@ pub fn answered(s: State, note: u8) -> Answer
     }
 }
 
-// The conditions worked out, once a telegram was accepted.
-fn switched(s: State) -> State
-    ensures { λ r. ⌜ r ≡ switchedOf s ⌝ }
+// The switches after an event: worked out once a telegram was accepted.
+fn switches_after(seen: bool, t: &[i32; 104], result: i32, switches: [Switch; 4]) -> [Switch; 4]
+    ensures { λ r. ⌜ r ≡ switchesAfter seen (now (t .entry)) result switches ⌝ }
 {
-    if !s.seen {
-        return s;
+    if !seen {
+        return switches;
     }
-    let reading = s.reading;
-    let switches = s.switches;
-    let next = switching::switch_all(settings::preselections(&s.table), reading.result, switches);
-    state::with_switches(s, next)
+    switching::switch_all(settings::preselections(t), result, switches)
 }
 
 // Whether input i + 1 holds the shown value.
@@ -92,15 +90,14 @@ fn is_frozen(t: &[i32; 104], levels: u8) -> bool
     holds(t, levels, 2)
 }
 
-// The shown value follows the result, or is held.
-fn displayed(s: State) -> State
-    ensures { λ r. ⌜ r ≡ displayedOf s ⌝ }
+// The shown value after an event: the result, or held.
+fn shown_after(t: &[i32; 104], levels: u8, shown: i32, result: i32) -> i32
+    ensures { λ r. ⌜ r ≡ shownAfter (now (t .entry)) levels shown result ⌝ }
 {
-    if is_frozen(&s.table, s.levels) {
-        return s;
+    if is_frozen(t, levels) {
+        return shown;
     }
-    let reading = s.reading;
-    state::with_shown(s, reading.result)
+    result
 }
 
 // A telegram: refused with 11, or read.
@@ -111,8 +108,13 @@ pub fn on_telegram(s: State, telegram: u32) -> Answer
     if !reading::accepts(&s.table, telegram) {
         return answered(s, 11);
     }
-    let read = commands::reread(state::with_telegram(s, telegram));
-    answered(displayed(switched(read)), 0)
+    let read = reading::read(&s.table, telegram);
+    let extremes = commands::noted(s.extremes, read);
+    let was = s.switches;
+    let switches = switches_after(true, &s.table, read.result, was);
+    let held = s.shown;
+    let shown = shown_after(&s.table, s.levels, held, read.result);
+    answered(state::took(s, telegram, read, extremes, switches, shown), 0)
 }
 
 // Levels: refused with 10, or their commands run.
@@ -124,8 +126,13 @@ pub fn on_levels(s: State, levels: u8) -> Answer
         return answered(s, 10);
     }
     let x = commands::commands(s, levels);
-    let next = x.state;
-    answered(displayed(switched(state::with_levels(next, levels))), x.note)
+    let n = x.state;
+    let read = n.reading;
+    let was = n.switches;
+    let switches = switches_after(n.seen, &n.table, read.result, was);
+    let held = n.shown;
+    let shown = shown_after(&n.table, levels, held, read.result);
+    answered(state::settled(n, levels, switches, shown), x.note)
 }
 
 // A tick: pulses are used up.

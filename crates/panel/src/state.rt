@@ -76,21 +76,28 @@ pub fn with_preselection(s: State, k: usize, x: i32) -> State
     n
 }
 
-pub fn with_levels(s: State, levels: u8) -> State
-    ensures { λ r. ⌜ r ≡ withLevels s levels ⌝ }
-{
-    let mut n = s;
-    n.levels = levels;
-    n
-}
-
-// The state with a telegram as the last one accepted.
-pub fn with_telegram(s: State, telegram: u32) -> State
-    ensures { λ r. ⌜ r ≡ withTelegram s telegram ⌝ }
+// The state with a telegram as the last one accepted, and all that follows from it.
+pub fn took(s: State, telegram: u32, reading: Reading, extremes: Extremes, switches: [Switch; 4], shown: i32) -> State
+    ensures { λ r. ⌜ r ≡ withShown (withSwitches (withReading (withTelegram s telegram) reading extremes) switches) shown ⌝ }
 {
     let mut n = s;
     n.seen = true;
     n.telegram = telegram;
+    n.reading = reading;
+    n.extremes = extremes;
+    n.switches = switches;
+    n.shown = shown;
+    n
+}
+
+// The state with new levels, and all that follows from them.
+pub fn settled(s: State, levels: u8, switches: [Switch; 4], shown: i32) -> State
+    ensures { λ r. ⌜ r ≡ withShown (withSwitches (withLevels s levels) switches) shown ⌝ }
+{
+    let mut n = s;
+    n.levels = levels;
+    n.switches = switches;
+    n.shown = shown;
     n
 }
 
@@ -100,14 +107,6 @@ pub fn with_reading(s: State, reading: Reading, extremes: Extremes) -> State
     let mut n = s;
     n.reading = reading;
     n.extremes = extremes;
-    n
-}
-
-pub fn with_shown(s: State, shown: i32) -> State
-    ensures { λ r. ⌜ r ≡ withShown s shown ⌝ }
-{
-    let mut n = s;
-    n.shown = shown;
     n
 }
 

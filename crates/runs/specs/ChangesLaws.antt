@@ -27,8 +27,8 @@ use Rattle.panel.specs.declared.commands.Acted.{Acted}
 use Rattle.panel.specs.declared.state.State.{State}
 use Rattle.panel.specs.State.{freshOf, withLevels, withTelegram, withSwitches}
 use Rattle.panel.specs.Commands.{rereadOf, acted, resetOf, clearLocksOf, clearExtremesOf, isTeach, teachOf, refusalOf, commandOf, edgeAt, inputOf, commandsOf}
-use Rattle.panel.specs.Step.{answerOf, switchedOf, displayedOf, settledOf, telegramOf, levelsOf, tickOf, stepOf}
-use Rattle.panel.specs.ValidLaws.{by-command, by-input, by-step}
+use Rattle.panel.specs.Step.{answerOf, displayedOf, settledOf, telegramOf, levelsOf, tickOf, stepOf}
+use Rattle.panel.specs.ValidLaws.{by-switched, by-command, by-input, by-step}
 use Rattle.runs.specs.Run.{answersOf, counted, seenIn, teaches, storesAt, storedBy, stored}
 use Rattle.runs.specs.AlikeLaws.{action-alike, preselections-alike}
 use Rattle.runs.specs.RunLaws.{step-own, own-result, own-error}
@@ -91,8 +91,8 @@ input-stores l i x n =
     refl
 
 settled-table : (s : State) → settledOf s .table ≡ s .table
-unfolding switchedOf displayedOf
-settled-table s = by-test (s .seen) _ s (λ (u : State). displayedOf u .table ≡ s .table) (λ _. refl) (λ _. refl)
+unfolding displayedOf
+settled-table s = by-switched s (λ (u : State). displayedOf u .table ≡ s .table) (λ _. refl) (λ _. refl)
 
 pub step-stores : (s : State) (e : Event) → T (not (storedBy s e)) → preselectionsIn (stepOf s e .state) ≡ preselectionsIn s
 unfolding stepOf telegramOf levelsOf tickOf answerOf storedBy commandsOf rereadOf
@@ -230,9 +230,9 @@ module _ (ps : List Preselection) (k : ℕ) (small : k < 4) (hy : T (hysteretic 
   law-same s i = record { turns = stays _ _ _ (switchIn s k .on); ready = i }
 
   law-settled : (s u : State) → Ready s → Left s u k → preselectionsIn u ≡ ps → Law s (settledOf u)
-  unfolding switchedOf displayedOf
+  unfolding displayedOf
   law-settled s u i q e =
-      by-test (u .seen) _ u (λ (v : State). Law s (displayedOf v))
+      by-switched u (λ (v : State). Law s (displayedOf v))
       (λ _. record {
         turns =
             subst (λ (w : Switch). Obeys (u .reading .result) (switchIn s k .on) (w .on)) (sym switch-is)

@@ -1,5 +1,4 @@
 -- `bench_step::repeated` keeps the state valid, and the rounds that are left fall.
-use borrow.Author.Needs.{needs}
 use native.Mathlib.Omega.{arith}
 use Rattle.panel.specs.Valid.{Good}
 use Rattle.bench_step.proofs.repeated.Statement.{statement}

@@ -2,7 +2,6 @@
 use mathlib.Core.List.{append-assoc}
 use native.Mathlib.Omega.{arith}
 use lib.IntN.{pos}
-use lib.ListN.{length-append}
 use Rattle.lines.specs.Lines.{space, loadLine}
 use Rattle.lines.specs.LineLaws.{field-at-most-20}
 use Rattle.lines.specs.PutLaws.{put-both, put-room}

@@ -1,6 +1,6 @@
 -- `lines::put_bytes` meets its contract. The invariant: the first i bytes stand in the buffer from `at` on. The measure is what is left of them.
 use Prim.Native.Nat.{_+_, _-_, _≤_}
-use mathlib.Core.Path.{_≡_, refl, ap, _∙_}
+use mathlib.Core.Path.{_≡_, refl, _∙_}
 use native.Mathlib.Omega.{arith}
 use native.Mathlib.Numerals.{add-one}
 use lib.ListN.{length, getD, length-set}

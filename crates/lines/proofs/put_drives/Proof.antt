@@ -1,11 +1,10 @@
 -- `lines::put_drives` meets its contract: the three fields stand one behind the other, and the newline ends the line.
 use mathlib.Core.Path.{_≡_, _∙_}
-use mathlib.Core.List.{[], _∷_, _++_}
 use native.Mathlib.Omega.{arith}
 use lib.ListN.{length-append}
 use mir.Syntax.{w32}
 use Rattle.integers.specs.Int.{bk, back-at}
-use Rattle.lines.specs.Lines.{space, outsText, analogText, codeIn}
+use Rattle.lines.specs.Lines.{codeIn}
 use Rattle.lines.specs.LineLaws.{analog-at-most-19, analog-field-at-most-20}
 use Rattle.lines.specs.PutLaws.{put-both, put-room}
 use Rattle.lines.specs.Fields.{driveFields}

@@ -1,11 +1,10 @@
 -- `lines::put_number` meets its contract: the number is written in the part of the buffer from `at` on, and the byte behind it.
-use Prim.Native.Nat.{_+_, _<_, _≤_}
+use Prim.Native.Nat.{_+_, _<_}
 use mathlib.Core.Path.{_≡_}
 use native.Mathlib.Omega.{arith}
 use lib.ListN.{length, length-append}
 use mir.Syntax.{w64}
 use mir.Facts.{toZ-ofZ}
-use borrow.Rule.Slice.PartMut.{same-len-mid}
 use Rattle.decimal.specs.Decimal.{textOf}
 use Rattle.decimal.specs.DecimalLaws.{text-at-most-19}
 use Rattle.lines.proofs.Parts.{number-put}

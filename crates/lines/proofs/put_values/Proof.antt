@@ -1,10 +1,8 @@
 -- `lines::put_values` meets its contract: the three fields stand one behind the other.
 use mathlib.Core.Path.{_≡_}
 use native.Mathlib.Omega.{arith}
-use lib.IntN.{pos}
 use mir.Syntax.{w32}
 use Rattle.integers.specs.Int.{bk}
-use Rattle.measurement.specs.Measure.{errorNumber}
 use Rattle.lines.specs.Lines.{space}
 use Rattle.lines.specs.LineLaws.{field-at-most-20, fields-at-most-40}
 use Rattle.lines.specs.PutLaws.{put-both, put-room}

@@ -1,12 +1,10 @@
 -- `lines::put_word` meets its contract: a word of 32 bits is a number of at most 18 digits.
-use Prim.Native.Nat.{_^_}
 use native.Mathlib.Omega.{arith}
 use lib.IntN.{ℤ}
 use mir.Syntax.{w32, w64}
 use mir.Val.{SFits}
 use mir.Facts.{toZ-ofZ}
-use Rattle.integers.specs.Int.{Within, size, wider, fits-within}
-use Rattle.decimal.specs.Decimal.{largest}
+use Rattle.integers.specs.Int.{size, wider, fits-within}
 use borrow.Author.Needs.{needs}
 use Rattle.lines.proofs.put_word.Statement.{statement}
 use Rattle.lines.proofs.put_word.Tie as tie

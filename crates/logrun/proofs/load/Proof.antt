@@ -1,6 +1,5 @@
 -- `logrun::load` meets its contract: a short input has no table of 104 words, and else the words are the table.
-use mathlib.Core.Path.{_≡_, sym, _∙_}
-use Prim.Native.Nat.{ℕ}
+use mathlib.Core.Path.{sym, _∙_}
 use native.Mathlib.Omega.{arith}
 use Rattle.logrun.specs.InputLaws.{not-104-words, short-input}
 use borrow.Author.Needs.{needs}

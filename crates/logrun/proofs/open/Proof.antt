@@ -1,5 +1,5 @@
 -- `logrun::open` meets its contract: a table that loads is told by the header, a refused one by its line.
-use mathlib.Core.Path.{_≡_, sym, _∙_}
+use mathlib.Core.Path.{sym, _∙_}
 use native.Mathlib.Omega.{arith}
 use borrow.Author.Tests.{eq-eqb, ne-eqb}
 use Rattle.lines.specs.LineLaws.{longest, header-line-at-most, load-line-at-most}

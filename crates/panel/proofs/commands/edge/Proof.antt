@@ -1,6 +1,5 @@
 -- `panel::commands::edge` meets its contract by those of its calls.
 use borrow.Author.Needs.{needs}
-use Rattle.panel.specs.Commands.{edgeAt}
 use Rattle.panel.proofs.commands.edge.Statement.{statement}
 use Rattle.panel.proofs.commands.edge.Tie as tie
 
@@ -23,7 +22,6 @@ acts-on-requires : tie.Need-acts-on-requires
 acts-on-requires c κs = search needs
 
 returns : tie.Need-returns
-unfolding edgeAt
 returns c = rw (c .acts-on .ensures, c .before .high-at2 .ensures, c .before .before .high-at .ensures, c .before .before .before .number .ensures)
 
 pub edge-spec : {M : Type 1} → statement M

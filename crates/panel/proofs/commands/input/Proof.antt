@@ -1,6 +1,6 @@
 -- `panel::commands::input` meets its contract: where the levels make the input act, its command and the first note.
 use borrow.Author.Needs.{needs}
-use Rattle.panel.specs.Commands.{inputOf}
+use Rattle.panel.specs.Commands.{edgeAt, inputOf}
 use Rattle.panel.proofs.commands.input.Statement.{statement}
 use Rattle.panel.proofs.commands.input.Tie as tie
 
@@ -23,13 +23,13 @@ first-note-requires : tie.Need-first-note-requires
 first-note-requires c κs = search needs
 
 returns : tie.Need-returns
-unfolding inputOf
+unfolding inputOf edgeAt
 returns c = let b = c .before .before in
     let d = b .before .before .before .before in
     rw (c .before .first-note .ensures, b .command .ensures, b .before .number .ensures, ← d .before .edge .ensures, d .if1 .taken)
 
 returns-2 : tie.Need-returns-2
-unfolding inputOf
+unfolding inputOf edgeAt
 returns-2 c = rw (← c .before .edge .ensures, c .if1 .left)
 
 pub input-spec : {M : Type 1} → statement M
