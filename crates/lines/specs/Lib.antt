@@ -3,3 +3,4 @@ pub mod Put
 pub mod PutLaws
 pub mod Fields
 pub mod LineLaws
+pub mod CodeLaws

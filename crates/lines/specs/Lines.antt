@@ -17,6 +17,7 @@ use Rattle.parameters.specs.Slots.{analogFormat, analogStart, analogEnd}
 
 -- ---- a line of fields
 
+-- the bytes of a space and of a newline
 abbrev pub space : ℕ
 space = 32
 
@@ -35,27 +36,35 @@ number n = textOf (pos n)
 
 -- ---- the first line: event kind result shown error outs analog note
 
+-- the word `event`
 abbrev pub eventWord : List ℕ
 eventWord = 101 ∷ 118 ∷ 101 ∷ 110 ∷ 116 ∷ []
 
+-- the word `kind`
 abbrev pub kindWord : List ℕ
 kindWord = 107 ∷ 105 ∷ 110 ∷ 100 ∷ []
 
+-- the word `result`
 abbrev pub resultWord : List ℕ
 resultWord = 114 ∷ 101 ∷ 115 ∷ 117 ∷ 108 ∷ 116 ∷ []
 
+-- the word `shown`
 abbrev pub shownWord : List ℕ
 shownWord = 115 ∷ 104 ∷ 111 ∷ 119 ∷ 110 ∷ []
 
+-- the word `error`
 abbrev pub errorWord : List ℕ
 errorWord = 101 ∷ 114 ∷ 114 ∷ 111 ∷ 114 ∷ []
 
+-- the word `outs`
 abbrev pub outsWord : List ℕ
 outsWord = 111 ∷ 117 ∷ 116 ∷ 115 ∷ []
 
+-- the word `analog`
 abbrev pub analogWord : List ℕ
 analogWord = 97 ∷ 110 ∷ 97 ∷ 108 ∷ 111 ∷ 103 ∷ []
 
+-- the word `note`
 abbrev pub noteWord : List ℕ
 noteWord = 110 ∷ 111 ∷ 116 ∷ 101 ∷ []
 
@@ -78,7 +87,7 @@ levelDigit false = 48
 abbrev pub outsText : List Bool → List ℕ
 outsText outs = levelDigit (getD outs 0 false) ∷ levelDigit (getD outs 1 false) ∷ levelDigit (getD outs 2 false) ∷ levelDigit (getD outs 3 false) ∷ []
 
--- "Analog is the code, or `off`"
+-- "Analog is the code, or `off`"; the word `off`
 abbrev pub offWord : List ℕ
 offWord = 111 ∷ 102 ∷ 102 ∷ []
 
@@ -107,14 +116,14 @@ eventLine count e a =
 
 -- ---- the lines of a refused table and of the end
 
--- "A refused table prints only `load`, number, slot"
+-- "A refused table prints only `load`, number, slot"; the word `load`
 abbrev pub loadWord : List ℕ
 loadWord = 108 ∷ 111 ∷ 97 ∷ 100 ∷ []
 
 unfoldable pub loadLine : ℕ → ℕ → List ℕ
 loadLine refusal slot = lineWith (loadWord ∷ number refusal ∷ number slot ∷ [])
 
--- "`end` carries 0 or the log's refusal"
+-- "`end` carries 0 or the log's refusal"; the word `end`
 abbrev pub endWord : List ℕ
 endWord = 101 ∷ 110 ∷ 100 ∷ []
 

@@ -32,10 +32,10 @@ put-both {b₀} {b₁} {b₂} {at} {mid} {end} {s} {t} p q h =
       holds =
           q .holds
           ∙ rw (put-front p h) (
-            let m : mid + length t ≡ at + length (s ++ t) = rw length-append (omega (arith, p .ends)) in
-            let d : drop (mid + length t) b₁ ≡ drop (at + length (s ++ t)) b₀ =
-                sym (drop-drop (length t) mid b₁) ∙ ap (drop (length t)) (put-behind p h) ∙ drop-drop (length t) mid b₀ ∙ ap (λ (n : ℕ). drop n b₀) m in
-            rw (d, append-assoc (take at b₀) s t));
+          let m : mid + length t ≡ at + length (s ++ t) = rw length-append (omega (arith, p .ends)) in
+          let d : drop (mid + length t) b₁ ≡ drop (at + length (s ++ t)) b₀ =
+          sym (drop-drop (length t) mid b₁) ∙ ap (drop (length t)) (put-behind p h) ∙ drop-drop (length t) mid b₀ ∙ ap (λ (n : ℕ). drop n b₀) m in
+          rw (d, append-assoc (take at b₀) s t));
     }
 
 -- a text put at the start

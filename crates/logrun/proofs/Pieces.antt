@@ -44,12 +44,12 @@ table-more bytes t k w z h l m e f =
     let n : 4 * k + 4 ≤ length (take tableBytes bytes) = rw (length-take-le tableBytes bytes m) (omega arith) in
     let a : 4 * (k + 1) ≡ 4 * k + 4 = omega arith in
     let g : wordFrom (take tableBytes bytes) (4 * k) ≡ w =
-        rw (
-          getD-take tableBytes bytes (4 * k) 0 (omega arith),
-          getD-take tableBytes bytes (4 * k + 1) 0 (omega arith),
-          getD-take tableBytes bytes (4 * k + 2) 0 (omega arith),
-          getD-take tableBytes bytes (4 * k + 3) 0 (omega arith),
-        ) (sym e) in
+    rw (
+      getD-take tableBytes bytes (4 * k) 0 (omega arith),
+      getD-take tableBytes bytes (4 * k + 1) 0 (omega arith),
+      getD-take tableBytes bytes (4 * k + 2) 0 (omega arith),
+      getD-take tableBytes bytes (4 * k + 3) 0 (omega arith),
+    ) (sym e) in
     rw (words-next (take tableBytes bytes) (4 * k) n, a, add-one k, take-suc-set t k z (omega arith), g, f, append-assoc)
 
 pub table-done : (bytes : List ℕ) (t : List ℤ) (k : ℕ) → k ≡ 104 → length t ≡ 104 → take k t ++ map signedOf (wordsIn (drop (4 * k) (take tableBytes bytes))) ≡ t

@@ -1,5 +1,6 @@
 pub mod Input
 pub mod Progress
+pub mod Pieces
 pub mod Output
 pub mod InputLaws
 pub mod ProgressLaws

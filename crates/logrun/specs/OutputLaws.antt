@@ -1,9 +1,9 @@
 -- What the functions put for a whole input, in whatever pieces it comes, is what panelrun means: `output-in-pieces`.
 use mathlib.Core.Path.{_≡_, refl, sym, ap, _∙_}
 use mathlib.Core.Bool.{false}
-use mathlib.Core.List.{List, [], _∷_, _++_, append-assoc}
+use mathlib.Core.List.{List, [], _∷_, _++_, append-assoc, append-nil}
 use mathlib.Core.Logic.{inl, inr}
-use Prim.Native.Nat.{ℕ, _+_, _<_}
+use Prim.Native.Nat.{ℕ, _<_}
 use native.Mathlib.Omega.{arith}
 use borrow.Author.Tests.{eq-eqb, ne-eqb}
 use lib.Dec.{eqb}
@@ -27,7 +27,8 @@ use Rattle.logrun.specs.Progress.{counted, startOf, afterTaken, textTake
 use Rattle.logrun.specs.Output.{linesOf, runText, openingText, outputOf}
 use Rattle.logrun.specs.InputLaws.{short-input}
 use Rattle.logrun.specs.ProgressLaws.{fed-running, text-running, words-fed-ended, words-text-ended}
-use Rattle.logrun.specs.PieceLaws.{AllWhole, joined, piecesFed, piecesText, all-fed, all-text, all-left}
+use Rattle.logrun.specs.Pieces.{AllWhole, joined, piecesFed, piecesText}
+use Rattle.logrun.specs.PieceLaws.{all-fed, all-text, all-left}
 
 -- a word's refusal is not 0
 refused-some : (p : Pending) (w n : ℕ) → wordOf p w .taken ≡ Refused n → eqb n 0 ≡ false
@@ -79,7 +80,7 @@ run-words p (w ∷ ws) left h =
     let s = wordOf (p .pending) w in
     rest-next p w ws left
     ∙ rw (text-running p w e, fed-running p w e, log-word (p .pending) w ws left)
-      (run-taken p w ws left (s .pending) (s .taken) (λ r. run-words r ws left) refl)
+    (run-taken p w ws left (s .pending) (s .taken) (λ r. run-words r ws left) refl)
 
 -- a whole log
 pub run-log : (s : State) (bytes : List ℕ) → restText (startOf s) (wordsIn bytes) (leftOver bytes) ≡ logText 0 s (logOfBytes bytes)
@@ -97,6 +98,10 @@ log-behind table log h = drop-at table log tableBytes h
 opening-loaded : (l : Loaded) → l .number ≡ 0 → openingText l ≡ headerLine
 unfolding openingText
 opening-loaded l h = rw (eq-eqb (l .number) 0 h)
+
+finished-ended : (p : Progress) (left : ℕ) → eqb (p .refusal) 0 ≡ false → finishedOf p left ≡ finishedOf p 0
+unfolding finishedOf
+finished-ended p left e = rw e
 
 -- THE LAW of panelrun: the table's 416 bytes, any pieces of whole words, and a last piece with 0 to 3 bytes left over.
 -- Where the table loads, the header, what each piece puts, and the end are the output; where it is refused, the load line is
@@ -116,18 +121,25 @@ module _ (table : List ℕ) (pieces : List (List ℕ)) (rest : List ℕ) (whole 
 
   pub output-in-pieces : loadedOf (tableOf table) .number ≡ 0
       → openingText (loadedOf (tableOf table))
-        ++ piecesText begun pieces
-        ++ wordsText (piecesFed begun pieces) (wordsIn rest)
-        ++ endLine (finishedOf (wordsFed (piecesFed begun pieces) (wordsIn rest)) (leftOver rest))
-        ≡ outputOf input
+      ++ piecesText begun pieces
+      ++ wordsText (piecesFed begun pieces) (wordsIn rest)
+      ++ endLine (finishedOf (wordsFed (piecesFed begun pieces) (wordsIn rest)) (leftOver rest))
+      ≡ outputOf input
   output-in-pieces loads =
       let all = joined pieces ++ rest in
       let s = loadedOf (tableOf table) .state in
       let parts : restText begun (wordsIn all) (leftOver all)
-          ≡ piecesText begun pieces ++ wordsText (piecesFed begun pieces) (wordsIn rest) ++ endLine (finishedOf (wordsFed (piecesFed begun pieces) (wordsIn rest)) (leftOver rest)) =
-          rw (all-text begun pieces rest whole, all-fed begun pieces rest whole, all-left pieces rest whole) in
+      ≡ piecesText begun pieces ++ wordsText (piecesFed begun pieces) (wordsIn rest) ++ endLine (finishedOf (wordsFed (piecesFed begun pieces) (wordsIn rest)) (leftOver rest)) =
+      rw (all-text begun pieces rest whole, all-fed begun pieces rest whole, all-left pieces rest whole) in
       rw (opening-loaded (loadedOf (tableOf table)) loads)
       (sym (output-loaded loads ∙ ap (λ (x : List ℕ). headerLine ++ x) (sym (run-log s all) ∙ parts) ∙ simp append-assoc))
+
+  -- behind a refusal of the log the rest of the input does not matter
+  pub output-ended : loadedOf (tableOf table) .number ≡ 0 → eqb (piecesFed begun pieces .refusal) 0 ≡ false
+      → openingText (loadedOf (tableOf table)) ++ piecesText begun pieces ++ endLine (finishedOf (piecesFed begun pieces) 0) ≡ outputOf input
+  output-ended loads e =
+      let q = piecesFed begun pieces in
+      rw (words-text-ended q (wordsIn rest) e, words-fed-ended q (wordsIn rest) e, append-nil, finished-ended q (leftOver rest) e) at (output-in-pieces loads)
 
   pub output-refused : (loadedOf (tableOf table) .number ≡ 0 → ⊥) → openingText (loadedOf (tableOf table)) ≡ outputOf input
   unfolding outputOf openingText

@@ -1,12 +1,13 @@
 -- A log fed in pieces of whole words gives what it gives fed at once: the cut does not matter.
 use mathlib.Core.Path.{_≡_, refl, ap, _∙_}
 use mathlib.Core.List.{List, [], _∷_, _++_, append-assoc}
-use Prim.Native.Nat.{ℕ, _+_}
+use Prim.Native.Nat.{ℕ}
 use native.Mathlib.Omega.{arith}
 use lib.ListN.{length-append}
 use Rattle.events.specs.Words.{wordAt}
 use Rattle.events.specs.Bytes.{wordsIn, leftOver}
 use Rattle.logrun.specs.declared.Progress.{Progress}
+use Rattle.logrun.specs.Pieces.{Whole, AllWhole, joined, piecesFed, piecesText}
 use Rattle.logrun.specs.Progress.{wordFed, wordsFed, wordsText}
 
 -- ---- words
@@ -21,10 +22,6 @@ text-both p [] b = refl
 text-both p (w ∷ a) b = rw (text-both (wordFed p w) a b, append-assoc)
 
 -- ---- bytes
-
--- a piece of whole words
-abbrev pub Whole : List ℕ → Type 0
-Whole a = leftOver a ≡ 0
 
 pub words-both : (a b : List ℕ) → Whole a → wordsIn (a ++ b) ≡ wordsIn a ++ wordsIn b
 unfolding wordsIn
@@ -45,23 +42,6 @@ pub pieces-text : (p : Progress) (a b : List ℕ) → Whole a → wordsText p (w
 pieces-text p a b h = ap (wordsText p) (words-both a b h) ∙ text-both p (wordsIn a) (wordsIn b)
 
 -- ---- any number of pieces
-
-abbrev pub AllWhole : List (List ℕ) → Type 0
-AllWhole [] = Unit
-AllWhole (a ∷ more) = Whole a × AllWhole more
-
-abbrev pub joined : List (List ℕ) → List ℕ
-joined [] = []
-joined (a ∷ more) = a ++ joined more
-
--- the run and the bytes printed after all of them
-unfoldable pub piecesFed : Progress → List (List ℕ) → Progress
-piecesFed p [] = p
-piecesFed p (a ∷ more) = piecesFed (wordsFed p (wordsIn a)) more
-
-unfoldable pub piecesText : Progress → List (List ℕ) → List ℕ
-piecesText p [] = []
-piecesText p (a ∷ more) = wordsText p (wordsIn a) ++ piecesText (wordsFed p (wordsIn a)) more
 
 pub all-fed : (p : Progress) (more : List (List ℕ)) (rest : List ℕ) → AllWhole more → wordsFed p (wordsIn (joined more ++ rest)) ≡ wordsFed (piecesFed p more) (wordsIn rest)
 unfolding piecesFed

@@ -118,10 +118,18 @@ pub fn open(bytes: &[u8], out: &mut [u8]) -> Opened
     let p = start(s);
     if l.number == 0 {
         let end = lines::header_line(out, 0);
-        return Opened { progress: p, loaded: true, end: end };
+        return Opened {
+            progress: p,
+            loaded: true,
+            end: end,
+        };
     }
     let end = lines::load_line(out, 0, l.number, l.slot);
-    Opened { progress: p, loaded: false, end: end }
+    Opened {
+        progress: p,
+        loaded: false,
+        end: end,
+    }
 }
 
 // The count after one more event.
@@ -180,7 +188,10 @@ pub fn word(p: Progress, w: u32, out: &mut [u8], at: usize) -> Fed
     ensures ready { λ r. ⌜ Ready (r .progress) ⌝ }
 {
     if p.refusal != 0 {
-        return Fed { progress: p, end: at };
+        return Fed {
+            progress: p,
+            end: at,
+        };
     }
     let pending = p.pending;
     let s = events::word(pending, w);
@@ -211,15 +222,19 @@ pub fn feed(p: Progress, bytes: &[u8], out: &mut [u8]) -> Fed
         end = f.end;
         i += 4;
     }
-    Fed { progress: q, end: end }
+    Fed {
+        progress: q,
+        end: end,
+    }
 }
 
 // The number that ends the run, with the bytes left over behind the last whole word.
 fn number_at_end(p: Progress, left_over: usize) -> u8
     ensures { λ r. ⌜ r ≡ finishedOf p «left_over» ⌝ }
 {
-    if p.refusal != 0 {
-        return p.refusal;
+    let refusal = p.refusal;
+    if refusal != 0 {
+        return refusal;
     }
     let pending = p.pending;
     events::end(pending, left_over)

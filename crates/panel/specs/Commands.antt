@@ -116,9 +116,13 @@ edgeIn t was l i = actsOn (config t i) (highAt was i) (highAt l i)
 unfoldable pub edgeAt : State → ℕ → ℕ → Bool
 edgeAt s l i = edgeIn (s .table) (s .levels) l i
 
--- whether it makes none act
-abbrev pub noEdge : List ℤ → ℕ → ℕ → Bool
-noEdge t was l = not (edgeIn t was l 0) && (not (edgeIn t was l 1) && not (edgeIn t was l 2))
+-- whether it makes input i + 1 run a command: actions 0, none, and 2, freeze, run nothing
+unfoldable pub commandsIn : List ℤ → ℕ → ℕ → ℕ → Bool
+commandsIn t was l i = edgeIn t was l i && not (eqb (action t i) 0 || eqb (action t i) 2)
+
+-- whether it makes no input run one
+unfoldable pub noCommand : List ℤ → ℕ → ℕ → Bool
+noCommand t was l = not (commandsIn t was l 0) && (not (commandsIn t was l 1) && not (commandsIn t was l 2))
 
 -- "the note is that of the lowest refused input"
 abbrev pub firstNote : ℕ → ℕ → ℕ

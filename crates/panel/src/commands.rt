@@ -10,7 +10,7 @@ ghost use mathlib.Core.Path.{_≡_};
 ghost use Prim.Native.Nat.{_<_, _≤_};
 ghost use lib.Signed.{ltZ};
 ghost use Rattle.integers.specs.Limit.{Z};
-ghost use Rattle.panel.specs.Commands.{errorIn, notedOf, rereadOf, resetRefusal, resetOf, clearLocksOf, extremesAt, clearExtremesOf, isTeach, teachRefusal, teachOf, refusalOf, carriedOut, commandOf, highAt, onRise, actsOn, edgeIn, noEdge, firstNote, inputOf, commandsOf};
+ghost use Rattle.panel.specs.Commands.{errorIn, notedOf, rereadOf, resetRefusal, resetOf, clearLocksOf, extremesAt, clearExtremesOf, isTeach, teachRefusal, teachOf, refusalOf, carriedOut, commandOf, highAt, onRise, actsOn, edgeIn, commandsIn, noCommand, firstNote, inputOf, commandsOf};
 ghost use Rattle.reading.specs.Reading.{placeOf};
 ghost use Rattle.panel.specs.Valid.{Good};
 
@@ -257,17 +257,32 @@ fn edge(t: &[i32; 104], was: u8, levels: u8, i: usize) -> bool
     acts_on(config, high_at(was, i), high_at(levels, i))
 }
 
-// Whether a change of levels makes no input act.
-fn no_edge(t: &[i32; 104], was: u8, levels: u8) -> bool
-    ensures { λ r. ⌜ r ≡ noEdge (now (t .entry)) was levels ⌝ }
+// Whether a change of levels makes input i + 1 run a command: actions 0, none, and 2, freeze, run nothing.
+fn has_command(t: &[i32; 104], was: u8, levels: u8, i: usize) -> bool
+    requires { ⌜ i < 3 ⌝ }
+    ensures { λ r. ⌜ r ≡ commandsIn (now (t .entry)) was levels i ⌝ }
 {
-    if edge(t, was, levels, 0) {
+    if !edge(t, was, levels, i) {
         return false;
     }
-    if edge(t, was, levels, 1) {
+    let action = number(t, slots::ACTION + slots::INPUT_STRIDE * i);
+    if action == 0 {
         return false;
     }
-    !edge(t, was, levels, 2)
+    action != 2
+}
+
+// Whether a change of levels makes no input run a command.
+fn no_command(t: &[i32; 104], was: u8, levels: u8) -> bool
+    ensures { λ r. ⌜ r ≡ noCommand (now (t .entry)) was levels ⌝ }
+{
+    if has_command(t, was, levels, 0) {
+        return false;
+    }
+    if has_command(t, was, levels, 1) {
+        return false;
+    }
+    !has_command(t, was, levels, 2)
 }
 
 // The note of the lowest refused input.
@@ -300,7 +315,7 @@ pub fn commands(s: State, levels: u8) -> Acted
     requires { ⌜ Good s ⌝ }
     ensures { λ r. ⌜ r ≡ commandsOf s levels ⌝ }
 {
-    if no_edge(&s.table, s.levels, levels) {
+    if no_command(&s.table, s.levels, levels) {
         return Acted { state: s, note: 0 };
     }
     let x = input(Acted { state: s, note: 0 }, levels, 0);

@@ -51,17 +51,29 @@ fn run_piece(p: Progress, input: &mut [u8], output: &mut [u8]) -> Turn
     let end = f.end;
     let next = f.progress;
     if !io::write_all(STDOUT_FILENO, &output[..end]) {
-        return Turn { progress: next, more: false };
+        return Turn {
+            progress: next,
+            more: false,
+        };
     }
     if next.refusal != 0 {
         close(next, 0, output);
-        return Turn { progress: next, more: false };
+        return Turn {
+            progress: next,
+            more: false,
+        };
     }
     if n < PIECE {
         close(next, n % 4, output);
-        return Turn { progress: next, more: false };
+        return Turn {
+            progress: next,
+            more: false,
+        };
     }
-    Turn { progress: next, more: true }
+    Turn {
+        progress: next,
+        more: true,
+    }
 }
 
 // The turns are counted down, from a number that no log uses up.

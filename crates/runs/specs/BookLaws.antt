@@ -25,9 +25,9 @@ use Rattle.panel.specs.declared.commands.Acted.{Acted}
 use Rattle.panel.specs.declared.state.State.{State}
 use Rattle.panel.specs.State.{freshOf, withLevels, withTelegram}
 use Rattle.panel.specs.Commands.{errorOf, rereadOf, acted, resetRefusal, resetOf, clearLocksOf, clearExtremesOf, teachOf, refusalOf, carriedOut, commandOf, edgeAt, inputOf, commandsOf}
-use Rattle.panel.specs.Step.{answerOf, displayedOf, settledOf, telegramOf, levelsOf, tickOf, stepOf}
+use Rattle.panel.specs.Step.{answerOf, switchedOf, displayedOf, settledOf, telegramOf, levelsOf, tickOf, stepOf}
 use Rattle.panel.specs.Valid.{Good}
-use Rattle.panel.specs.ValidLaws.{by-switched, by-command, good-input, good-step}
+use Rattle.panel.specs.ValidLaws.{by-command, good-input, good-step}
 use Rattle.runs.specs.Run.{runOf}
 use Rattle.runs.specs.Book.{Book, freshBook, turnsTo, movesTo, asksReset, bookRefusal, bookInput, bookStep, bookFrom}
 use Rattle.runs.specs.AlikeLaws.{layout-alike, accepts-alike, place-alike, action-alike, config-alike}
@@ -124,8 +124,8 @@ module _ {t : List ℤ} {s : State} (g : Good s) (k : Kept t s) where
       ∙ ap (bookInput t l 2) (book-input l 1 x₁ g₁ k₁ ∙ ap (bookInput t l 1) (book-input l 0 x₀ g k))
 
 book-settled : (s : State) → bookIn (settledOf s) ≡ bookIn s
-unfolding displayedOf
-book-settled s = by-switched s (λ (u : State). bookIn (displayedOf u) ≡ bookIn s) (λ _. refl) (λ _. refl)
+unfolding switchedOf displayedOf
+book-settled s = refl
 
 pub book-step : {t : List ℤ} {s : State} → Good s → Kept t s → (e : Event) → bookIn (stepOf s e .state) ≡ bookStep t (bookIn s) e
 unfolding stepOf telegramOf levelsOf tickOf answerOf bookStep rereadOf

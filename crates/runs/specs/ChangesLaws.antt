@@ -27,7 +27,7 @@ use Rattle.panel.specs.declared.commands.Acted.{Acted}
 use Rattle.panel.specs.declared.state.State.{State}
 use Rattle.panel.specs.State.{freshOf, withLevels, withTelegram, withSwitches}
 use Rattle.panel.specs.Commands.{rereadOf, acted, resetOf, clearLocksOf, clearExtremesOf, isTeach, teachOf, refusalOf, commandOf, edgeAt, inputOf, commandsOf}
-use Rattle.panel.specs.Step.{answerOf, displayedOf, settledOf, telegramOf, levelsOf, tickOf, stepOf}
+use Rattle.panel.specs.Step.{answerOf, switchedOf, displayedOf, settledOf, telegramOf, levelsOf, tickOf, stepOf}
 use Rattle.panel.specs.ValidLaws.{by-switched, by-command, by-input, by-step}
 use Rattle.runs.specs.Run.{answersOf, counted, seenIn, teaches, storesAt, storedBy, stored}
 use Rattle.runs.specs.AlikeLaws.{action-alike, preselections-alike}
@@ -91,8 +91,8 @@ input-stores l i x n =
     refl
 
 settled-table : (s : State) → settledOf s .table ≡ s .table
-unfolding displayedOf
-settled-table s = by-switched s (λ (u : State). displayedOf u .table ≡ s .table) (λ _. refl) (λ _. refl)
+unfolding switchedOf displayedOf
+settled-table s = refl
 
 pub step-stores : (s : State) (e : Event) → T (not (storedBy s e)) → preselectionsIn (stepOf s e .state) ≡ preselectionsIn s
 unfolding stepOf telegramOf levelsOf tickOf answerOf storedBy commandsOf rereadOf

@@ -24,8 +24,8 @@ use Rattle.panel.specs.declared.commands.Acted.{Acted}
 use Rattle.panel.specs.declared.state.State.{State}
 use Rattle.panel.specs.State.{freshOf, withTable, withLevels, withTelegram}
 use Rattle.panel.specs.Commands.{readAgain, rereadOf, acted, resetOf, clearLocksOf, clearExtremesOf, teachOf, commandOf, inputOf, commandsOf}
-use Rattle.panel.specs.ValidLaws.{by-switched, by-command, by-input, by-step}
-use Rattle.panel.specs.Step.{displayedOf, settledOf, stepOf}
+use Rattle.panel.specs.ValidLaws.{by-command, by-input, by-step}
+use Rattle.panel.specs.Step.{switchedOf, displayedOf, settledOf, stepOf}
 use Rattle.runs.specs.AlikeLaws.{alike-refl, alike-trans, reading-alike}
 
 -- ---- under an error the result is 0
@@ -90,11 +90,8 @@ module _ (t : List ℤ) where
   kept-commands s l g = kept-input l 2 (inputOf l 1 (inputOf l 0 (acted s 0))) (kept-input l 1 (inputOf l 0 (acted s 0)) (kept-input l 0 (acted s 0) g))
 
   pub kept-settled : (s : State) → Kept t s → Kept t (settledOf s)
-  unfolding displayedOf
-  kept-settled s g =
-      by-switched s (λ (u : State). Kept t (displayedOf u))
-      (λ _. record { alike = g .alike; read = g .read; zeroed = g .zeroed })
-      (λ _. record { alike = g .alike; read = g .read; zeroed = g .zeroed })
+  unfolding switchedOf displayedOf
+  kept-settled s g = record { alike = g .alike; read = g .read; zeroed = g .zeroed }
 
   pub kept-step : {s : State} → Kept t s → (e : Event) → Kept t (stepOf s e .state)
   kept-step {s} g e =

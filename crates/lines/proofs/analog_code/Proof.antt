@@ -21,12 +21,21 @@ code-requires c κs = search needs
 
 returns : tie.Need-returns
 unfolding codeIn
-returns c = 
+returns c =
     let a = c .before .before .before .before .before .before .before .before .before .before .before .before .args .a in
     let w2 = c .before .before .word2 in
     let w1 = c .before .before .before .before .before .word in
     let r : bk w32 (a .result) ≡ a .result = search needs in
-    rw (back-at w32 (c .code .result) (c .code .ok), c .code .ensures, r, back-at w32 (w2 .result) (w2 .ok), back-at w32 (w1 .result) (w1 .ok), w2 .ensures, w1 .ensures, c .before .before .before .before .before .before .before .before .number .ensures)
+    rw (
+      back-at w32 (c .code .result) (c .code .ok),
+      c .code .ensures,
+      r,
+      back-at w32 (w2 .result) (w2 .ok),
+      back-at w32 (w1 .result) (w1 .ok),
+      w2 .ensures,
+      w1 .ensures,
+      c .before .before .before .before .before .before .before .before .number .ensures,
+    )
 
 pub analog-code-spec : {M : Type 1} → statement M
 analog-code-spec =

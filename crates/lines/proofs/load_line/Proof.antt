@@ -1,8 +1,8 @@
 -- `lines::load_line` meets its contract: the word and the two numbers stand one behind the other.
-use mathlib.Core.List.{append-assoc}
+use mathlib.Core.List.{[], _∷_, _++_, append-assoc}
 use native.Mathlib.Omega.{arith}
 use lib.IntN.{pos}
-use Rattle.lines.specs.Lines.{space, loadLine}
+use Rattle.lines.specs.Lines.{space, newline, number, loadWord, loadLine}
 use Rattle.lines.specs.LineLaws.{field-at-most-20}
 use Rattle.lines.specs.PutLaws.{put-both, put-room}
 use borrow.Author.Needs.{needs}
@@ -19,19 +19,23 @@ put-natural-requires : tie.Need-put-natural-requires
 put-natural-requires c κs = search needs
 
 put-natural-requires-2 : tie.Need-put-natural-requires-2
-put-natural-requires-2 c κs = (put-room (c .before .before .before .put-natural .ensures) 20 20 (field-at-most-20 _ space) (put-room (c .before .before .before .before .before .before .before .put-bytes .ensures) 5 40 (omega arith) (omega arith)), omega arith)
+put-natural-requires-2 c κs =
+    let word = c .before .before .before .before .before .before .before in
+    let room = put-room (word .put-bytes .ensures) 5 40 (omega arith) (omega arith) in
+    (put-room (c .before .before .before .put-natural .ensures) 20 20 (field-at-most-20 _ space) room, omega arith)
 
 same-length : tie.Need-same-length
 same-length c = search needs
 
 returns : tie.Need-returns
 unfolding loadLine
-returns c = 
+returns c =
     let args = c .before .before .before .before .before .before .before .before .before .before .before .before .before .before .args in
     let p1 = c .before .before .before .before .before .before .before .before .before .before .put-bytes .ensures in
     let p2 = c .before .before .before .before .before .before .put-natural .ensures in
     let f = field-at-most-20 (pos (args .refusal)) space in
-    rw (← append-assoc) (put-both (put-both p1 p2 (omega arith)) (c .before .before .put-natural2 .ensures) (omega (arith, f)))
+    rw (← append-assoc (loadWord ++ (space ∷ [])) (number (args .refusal) ++ (space ∷ [])) (number (args .slot) ++ (newline ∷ [])))
+    (put-both (put-both p1 p2 (omega arith)) (c .before .before .put-natural2 .ensures) (omega (arith, f)))
 
 pub load-line-spec : {M : Type 1} → statement M
 load-line-spec =

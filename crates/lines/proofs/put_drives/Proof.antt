@@ -25,14 +25,17 @@ cast-put-natural : tie.Need-cast-put-natural
 cast-put-natural c = search needs
 
 put-natural-requires : tie.Need-put-natural-requires
-put-natural-requires c κs = (put-room (c .before .before .before .before .put-analog .ensures) 20 20 (analog-field-at-most-20 _ _) (put-room (c .before .before .before .before .before .before .before .before .put-outs .ensures) 5 40 (omega arith) (omega arith)), omega arith)
+put-natural-requires c κs =
+    let analog = c .before .before .before .before in
+    let room = put-room (analog .before .before .before .before .put-outs .ensures) 5 40 (omega arith) (omega arith) in
+    (put-room (analog .put-analog .ensures) 20 20 (analog-field-at-most-20 _ _) room, omega arith)
 
 same-length : tie.Need-same-length
 same-length c = search needs
 
 returns : tie.Need-returns
 unfolding driveFields
-returns c = 
+returns c =
     let a = c .before .before .before .before .before .before .before .before .before .before .before .before .before .before .before .before .args .a in
     let code = c .before .before .before .before .before .before .before .before .before .before .before .before .before .analog-code in
     let e : bk w32 (code .result) ≡ codeIn a = back-at w32 (code .result) (code .ok) ∙ code .ensures in

@@ -24,14 +24,17 @@ cast-put-natural : tie.Need-cast-put-natural
 cast-put-natural c = search needs
 
 put-natural-requires : tie.Need-put-natural-requires
-put-natural-requires c κs = (put-room (c .before .before .before .before .put-word2 .ensures) 20 20 (field-at-most-20 _ space) (put-room (c .before .before .before .before .before .before .before .before .before .put-word .ensures) 20 40 (field-at-most-20 _ space) (omega arith)), omega arith)
+put-natural-requires c κs =
+    let shown = c .before .before .before .before in
+    let room = put-room (shown .before .before .before .before .before .put-word .ensures) 20 40 (field-at-most-20 _ space) (omega arith) in
+    (put-room (shown .put-word2 .ensures) 20 20 (field-at-most-20 _ space) room, omega arith)
 
 same-length : tie.Need-same-length
 same-length c = search needs
 
 returns : tie.Need-returns
 unfolding valueFields
-returns c = 
+returns c =
     let a = c .before .before .before .before .before .before .before .before .before .before .before .before .before .before .before .before .args .a in
     let r : bk w32 (a .result) ≡ a .result = search needs in
     let s : bk w32 (a .shown) ≡ a .shown = search needs in

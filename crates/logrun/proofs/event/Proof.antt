@@ -13,14 +13,16 @@ step-requires : tie.Need-step-requires
 step-requires c κs = search needs
 
 event-line-requires : tie.Need-event-line-requires
-event-line-requires c κs = (omega arith, rw (c .before .before .before .next-count .ensures) (counted-range (c .before .before .before .before .before .args .p .count) (c .before .before .before .before .before .pre .0 .count)))
+event-line-requires c κs =
+    let start = c .before .before .before .before .before in
+    (omega arith, rw (c .before .before .before .next-count .ensures) (counted-range (start .args .p .count) (start .pre .0 .count)))
 
 same-length : tie.Need-same-length
 same-length c = search needs
 
 returns : tie.Need-returns
 unfolding afterTaken textTaken
-returns c = 
+returns c =
     let n = c .before .before .before .before .before .before .before .next-count .ensures in
     let s = c .before .before .before .before .before .step .ensures .0 in
     (rw (s, n), rw (n, s) at (c .before .before .before .event-line .ensures))

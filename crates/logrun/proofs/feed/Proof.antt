@@ -14,7 +14,7 @@ use Rattle.logrun.proofs.feed.Statement.{statement}
 use Rattle.logrun.proofs.feed.Tie as tie
 
 abbrev Inv-loop : tie.InvT-loop
-Inv-loop bytes out₀ q₀ end₀ i₀ out q end i = 
+Inv-loop bytes out₀ q₀ end₀ i₀ out q end i =
     (i ≤ length bytes)
     × Ready q
     × (end ≤ 32 * i)
@@ -66,29 +66,34 @@ loop-less : tie.Need-loop-less Inv-loop μ-loop
 loop-less c = omega arith
 
 loop-again : tie.Need-loop-again Inv-loop μ-loop
-loop-again c = 
-    let l = c .before .before .before .before .before .before .before .before .before .before .before .loop in
-    let args = c .before .before .before .before .before .before .before .before .before .before .before .before .before .before .args in
+loop-again c =
+    let turn = c .before .before .before .before .before .before .before .before .before .before in
+    let l = turn .before .loop in
+    let start = turn .before .before .before .before in
+    let bytes = start .args .bytes .now in
     let w = c .before .before .before .word in
-    let m = word-at-most (l .q) (c .before .before .before .before .before .word-at .result) in
-    let room : l .end + length (wordText (l .q) (c .before .before .before .before .before .word-at .result)) ≤ length (l .out) = omega (arith, m, l .inv .2, l .inv .3, c .before .before .before .before .before .before .before .before .before .before .before .before .before .before .pre .1, c .before .before .before .before .before .before .before .before .before .before .loop-test .taken) in
+    let read = c .before .before .before .before .before .word-at in
+    let more : l .i + 4 ≤ length bytes = turn .loop-test .taken in
+    let m = word-at-most (l .q) (read .result) in
+    let room : l .end + length (wordText (l .q) (read .result)) ≤ length (l .out) = omega (arith, l .inv .2, l .inv .3, start .pre .1) in
     let put = w .ensures .1 .0 in
-    let at = c .before .before .before .before .before .word-at .ensures in
-    let more : l .i + 4 ≤ length (args .bytes .now) = c .before .before .before .before .before .before .before .before .before .before .loop-test .taken in (
+    let f = fed-more (l .q) (w .result .progress) bytes (l .out) _ (l .i) (l .end) _ (read .result) put room (w .ensures .0) (read .ensures) more in
+    let t = text-more (l .q) (w .result .progress) bytes (l .out) _ (l .i) (l .end) _ (read .result) put room (w .ensures .0) (read .ensures) more in
+    let b = behind-more (l .q) (w .result .progress) bytes (l .out) _ (l .i) (l .end) _ (read .result) put room (w .ensures .0) (read .ensures) more in (
       more,
       w .ensures .1 .1,
-      omega (arith, put .ends, m, l .inv .2),
+      omega (arith, put .ends, l .inv .2),
       put-length put room ∙ l .inv .3,
-      l .inv .4 ∙ fed-more (l .q) (w .result .progress) (args .bytes .now) (l .out) _ (l .i) (l .end) _ (c .before .before .before .before .before .word-at .result) put room (w .ensures .0) at more,
-      l .inv .5 ∙ text-more (l .q) (w .result .progress) (args .bytes .now) (l .out) _ (l .i) (l .end) _ (c .before .before .before .before .before .word-at .result) put room (w .ensures .0) at more,
-      behind-more (l .q) (w .result .progress) (args .bytes .now) (l .out) _ (l .i) (l .end) _ (c .before .before .before .before .before .word-at .result) put room (w .ensures .0) at more (args .out .now) (l .inv .6),
+      l .inv .4 ∙ f,
+      l .inv .5 ∙ t,
+      b (start .args .out .now) (l .inv .6),
     )
 
 same-length : tie.Need-same-length Inv-loop μ-loop
 same-length c = c .before .loop .inv .3
 
 returns : tie.Need-returns Inv-loop μ-loop
-returns c = 
+returns c =
     let l = c .before .loop in
     let bytes = c .before .before .before .before .args .bytes .now in
     let args = c .before .before .before .before .args in

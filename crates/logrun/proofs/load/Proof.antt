@@ -13,7 +13,7 @@ load-requires : tie.Need-load-requires
 load-requires c κs = search needs
 
 returns : tie.Need-returns
-returns c = 
+returns c =
     let start = c .before .before .before .before in
     (c .load .ensures .0 ∙ not-104-words _ (λ e. omega (arith, e)) ∙ sym (short-input (start .args .bytes .now) (c .before .before .if1 .taken)), c .load .ensures .1)
 

@@ -25,7 +25,7 @@ same-length c = search needs
 
 returns : tie.Need-returns
 unfolding openingText
-returns c = 
+returns c =
     let begun = c .before .before .before .before .before .before .start .ensures in
     let l = c .before .before .before .before .before .before .before .before .load .ensures .0 in
     let e = eq-eqb _ 0 (rw l at (c .before .before .before .before .if1 .taken)) in
@@ -33,14 +33,16 @@ returns c =
     (begun .0 ∙ rw l, (sym e, (rw e put, (begun .1, put-within put longest header-line-at-most (omega arith)))))
 
 load-line-requires : tie.Need-load-line-requires
-load-line-requires c κs = (omega arith, rw (c .before .before .before .before .before .load .ensures .0) (omega (arith, slot-small (tableOf (c .before .before .before .before .before .before .before .before .args .bytes .now)))))
+load-line-requires c κs =
+    let load = c .before .before .before .before .before in
+    (omega arith, rw (load .load .ensures .0) (omega (arith, slot-small (tableOf (load .before .before .before .args .bytes .now)))))
 
 same-length-2 : tie.Need-same-length-2
 same-length-2 c = search needs
 
 returns-2 : tie.Need-returns-2
 unfolding openingText
-returns-2 c = 
+returns-2 c =
     let begun = c .before .before .before .before .before .before .start .ensures in
     let l = c .before .before .before .before .before .before .before .before .load .ensures .0 in
     let e = ne-eqb _ 0 (rw l at (c .before .before .before .before .if1 .left)) in

@@ -1,7 +1,7 @@
 -- `logrun::table_of` meets its contract. The invariant: the k words stored and the words left are the table. The measure is what is left of the 104.
 use mathlib.Core.Path.{_≡_, refl, sym, _∙_}
 use mathlib.Core.List.{_++_, map}
-use Prim.Native.Nat.{_+_, _-_, _*_, _≤_}
+use Prim.Native.Nat.{_-_, _*_, _≤_}
 use native.Mathlib.Omega.{arith}
 use lib.ListN.{length, take, drop, length-set}
 use mir.Syntax.{w32}
@@ -64,18 +64,20 @@ loop-less : tie.Need-loop-less Inv-loop μ-loop
 loop-less c = omega arith
 
 loop-again : tie.Need-loop-again Inv-loop μ-loop
-loop-again c = 
+loop-again c =
     let l = c .before .before .before .before .before .before .before .loop in
+    let bytes = c .before .before .before .before .before .before .before .before .before .args .bytes .now in
+    let w = c .before .word-at in
     let z = c .signed .result in
-    let e = back-at w32 z (c .signed .ok) in (
+    let e = back-at w32 z (c .signed .ok) ∙ c .signed .ensures in (
       omega arith,
       length-set (l .t) (l .k) (bk w32 z) ∙ l .inv .1,
-      l .inv .2 ∙ table-more (c .before .before .before .before .before .before .before .before .before .args .bytes .now) (l .t) (l .k) (c .before .word-at .result) (bk w32 z) (omega arith) (l .inv .1) (omega arith) (c .before .word-at .ensures) (e ∙ c .signed .ensures),
+      l .inv .2 ∙ table-more bytes (l .t) (l .k) (w .result) (bk w32 z) (omega arith) (l .inv .1) (omega arith) (w .ensures) e,
     )
 
 returns : tie.Need-returns Inv-loop μ-loop
 unfolding tableOf
-returns c = 
+returns c =
     let l = c .before .loop in
     sym (l .inv .2 ∙ table-done (c .before .before .before .args .bytes .now) (l .t) (l .k) (omega arith) (l .inv .1))
 

@@ -8,7 +8,7 @@ use Rattle.logrun.proofs.word.Statement.{statement}
 use Rattle.logrun.proofs.word.Tie as tie
 
 returns : tie.Need-returns
-returns c = 
+returns c =
     let start = c .before .before .before in
     let p = start .args .p in
     let e = ne-eqb (p .refusal) 0 (c .if1 .taken) in
@@ -39,7 +39,7 @@ same-length : tie.Need-same-length
 same-length c = search needs
 
 returns-2 : tie.Need-returns-2
-returns-2 c = 
+returns-2 c =
     let start = c .before .before .before .before .before .before .before .before .before .before .before .before .before in
     let p = start .args .p in
     let w = start .args .w in
@@ -52,7 +52,7 @@ returns-2 c =
 
 returns-3 : tie.Need-returns-3
 unfolding afterTaken textTaken
-returns-3 c = 
+returns-3 c =
     let start = c .before .before .before .before .before .before .before .before .before in
     let p = start .args .p in
     let w = start .args .w in
@@ -64,7 +64,7 @@ returns-3 c =
 
 returns-4 : tie.Need-returns-4
 unfolding afterTaken textTaken
-returns-4 c = 
+returns-4 c =
     let start = c .before .before .before .before .before .before .before .before .before .before in
     let p = start .args .p in
     let w = start .args .w in

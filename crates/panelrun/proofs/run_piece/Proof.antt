@@ -49,7 +49,9 @@ returns-2 : tie.Need-returns-2
 returns-2 c = search needs
 
 close-requires-2 : tie.Need-close-requires-2
-close-requires-2 c κs = omega (arith, c .before .before .before .before .before .before .before .before .before .output .given, c .before .before .before .before .before .before .before .before .before .before .before .before .before .before .before .before .before .before .before .pre .2)
+close-requires-2 c κs =
+    let output = c .before .before .before .before .before .before .before .before .before in
+    omega (arith, output .output .given, output .before .before .before .before .before .before .before .before .before .before .pre .2)
 
 same-length-5 : tie.Need-same-length-5
 same-length-5 c = search needs

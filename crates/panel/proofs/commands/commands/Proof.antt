@@ -8,12 +8,12 @@ use Rattle.panel.specs.ValidLaws.{good-input}
 use Rattle.panel.proofs.commands.commands.Statement.{statement}
 use Rattle.panel.proofs.commands.commands.Tie as tie
 
-no-edge-requires : tie.Need-no-edge-requires
-no-edge-requires c κs = search needs
+no-command-requires : tie.Need-no-command-requires
+no-command-requires c κs = search needs
 
 returns : tie.Need-returns
 returns c = let s = c .before .before .before .before .args in
-    no-commands (s .t1) (s .levels) (sym (c .before .no-edge .ensures) ∙ c .if1 .taken)
+    no-commands (s .t1) (s .levels) (sym (c .before .no-command .ensures) ∙ c .if1 .taken)
 
 input-requires : tie.Need-input-requires
 input-requires c κs = search needs
@@ -33,4 +33,4 @@ returns-2 c = rw (c .input3 .ensures, c .before .input2 .ensures, c .before .bef
 pub commands-spec : {M : Type 1} → statement M
 commands-spec =
     tie.close
-    (tie.spec no-edge-requires returns input-requires input-requires-2 input-requires-3 returns-2)
+    (tie.spec no-command-requires returns input-requires input-requires-2 input-requires-3 returns-2)
