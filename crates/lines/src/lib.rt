@@ -15,9 +15,6 @@ ghost use Rattle.lines.specs.LineLaws.{longest};
 ghost use Rattle.lines.specs.Fields.{valueFields, driveFields};
 ghost use Rattle.lines.specs.Put.{Put};
 
-// The room that any line has in.
-pub const LONGEST: usize = 128;
-
 // The letter of an event's kind.
 fn kind_letter(e: Event) -> u8
     ensures { λ r. ⌜ r ≡ kindLetter e ⌝ }

@@ -1,0 +1,147 @@
+//! Runs another panelrun on random cases and holds its output against the model's.
+
+use std::fs;
+use std::io::{self, ErrorKind, Write};
+use std::process::{Command, Output, Stdio};
+use std::sync::atomic::{AtomicBool, AtomicU64, Ordering};
+use std::sync::Mutex;
+use std::thread;
+
+use crate::coverage::{self, Coverage};
+use crate::generate;
+
+/// Processes at a time.
+const WORKERS: usize = 2;
+
+/// A case on which the two disagree.
+pub struct Difference {
+    pub case: u64,
+    pub purpose: String,
+    pub input: Vec<u8>,
+    pub expected: Vec<u8>,
+    pub actual: Vec<u8>,
+    /// Standard error and how the process ended, where that is wrong.
+    pub trouble: String,
+}
+
+/// What the workers share.
+struct Shared<'a> {
+    program: &'a str,
+    seed: u64,
+    count: u64,
+    next: AtomicU64,
+    stop: AtomicBool,
+    seen: Mutex<Coverage>,
+    found: Mutex<Option<Difference>>,
+}
+
+/// Compares `count` cases; the first difference ends the comparison.
+pub fn differ(program: &str, seed: u64, count: u64) -> io::Result<(Coverage, Option<Difference>)> {
+    let shared = Shared {
+        program,
+        seed,
+        count,
+        next: AtomicU64::new(0),
+        stop: AtomicBool::new(false),
+        seen: Mutex::new(Coverage::default()),
+        found: Mutex::new(None),
+    };
+    thread::scope(|scope| {
+        let workers: Vec<_> = (0..WORKERS).map(|_| scope.spawn(|| work(&shared))).collect();
+        workers.into_iter().try_for_each(|worker| worker.join().unwrap())
+    })?;
+    Ok((shared.seen.into_inner().unwrap(), shared.found.into_inner().unwrap()))
+}
+
+fn work(shared: &Shared) -> io::Result<()> {
+    let mut seen = Coverage::default();
+    while !shared.stop.load(Ordering::Relaxed) {
+        let case = shared.next.fetch_add(1, Ordering::Relaxed);
+        if case >= shared.count {
+            break;
+        }
+        let (met, difference) = compare(shared.program, shared.seed, case).inspect_err(|_| {
+            shared.stop.store(true, Ordering::Relaxed);
+        })?;
+        seen.add(&met);
+        if difference.is_some() {
+            shared.stop.store(true, Ordering::Relaxed);
+            *shared.found.lock().unwrap() = difference;
+        }
+    }
+    shared.seen.lock().unwrap().add(&seen);
+    Ok(())
+}
+
+/// Runs one case through the program and the model.
+fn compare(program: &str, seed: u64, index: u64) -> io::Result<(Coverage, Option<Difference>)> {
+    let case = generate::case(seed, index);
+    let (expected, met) = coverage::observe(&case.input);
+    let output = run(program, &case.input)?;
+    let trouble = trouble(&output);
+    if output.stdout == expected.as_bytes() && trouble.is_empty() {
+        return Ok((met, None));
+    }
+    let difference = Difference {
+        case: index,
+        purpose: case.theme.purpose(),
+        input: case.input,
+        expected: expected.into_bytes(),
+        actual: output.stdout,
+        trouble,
+    };
+    Ok((met, Some(difference)))
+}
+
+/// Feeds an input to a program; one that stops reading early is no error.
+fn run(program: &str, input: &[u8]) -> io::Result<Output> {
+    let mut child = Command::new(program)
+        .stdin(Stdio::piped())
+        .stdout(Stdio::piped())
+        .stderr(Stdio::piped())
+        .spawn()?;
+    match child.stdin.take().unwrap().write_all(input) {
+        Err(error) if error.kind() != ErrorKind::BrokenPipe => return Err(error),
+        _ => {}
+    }
+    child.wait_with_output()
+}
+
+/// Text on standard error, or an end by a signal.
+fn trouble(output: &Output) -> String {
+    let mut text = String::from_utf8_lossy(&output.stderr).into_owned();
+    if output.status.code().is_none() {
+        text.push_str(&output.status.to_string());
+    }
+    text
+}
+
+/// Writes input and outputs of a difference beside each other and prints where they part.
+pub fn report(difference: &Difference) -> io::Result<()> {
+    fs::write("difference.input", &difference.input)?;
+    fs::write("difference.expected", &difference.expected)?;
+    fs::write("difference.actual", &difference.actual)?;
+    println!("case {} ({}) differs", difference.case, difference.purpose);
+    let (line, expected, actual) = first_parting(&difference.expected, &difference.actual);
+    println!("line {line}");
+    println!("model:    {expected}");
+    println!("panelrun: {actual}");
+    if !difference.trouble.is_empty() {
+        println!("trouble:  {}", difference.trouble.trim_end());
+    }
+    println!("files: difference.input, difference.expected, difference.actual");
+    Ok(())
+}
+
+/// Number and text of the first line that differs.
+fn first_parting(expected: &[u8], actual: &[u8]) -> (usize, String, String) {
+    let lines = |bytes: &[u8]| -> Vec<String> {
+        let text = String::from_utf8_lossy(bytes).into_owned();
+        text.split('\n').map(String::from).collect()
+    };
+    let (expected, actual) = (lines(expected), lines(actual));
+    let longest = expected.len().max(actual.len());
+    let line = (0..longest).find(|&i| expected.get(i) != actual.get(i)).unwrap_or(longest);
+    let text = |lines: &[String]| lines.get(line).cloned().unwrap_or("(no line)".into());
+    (line + 1, text(&expected), text(&actual))
+}

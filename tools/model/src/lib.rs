@@ -1,0 +1,19 @@
+//! Separate test code of the panel indicator engine: an independent model, written from the paper
+//! alone, with random cases and comparisons.
+
+pub mod analog;
+pub mod bench;
+pub mod coverage;
+pub mod differ;
+pub mod fast;
+pub mod fraction;
+pub mod generate;
+pub mod log;
+pub mod measure;
+pub mod panel;
+pub mod panelrun;
+pub mod print;
+pub mod record;
+pub mod rng;
+pub mod table;
+pub mod telegram;

@@ -1,0 +1,91 @@
+//! Commands of the model: run, print, generate, differ, record, check, bench, events.
+
+use std::env;
+use std::io::{self, Read, Write};
+use std::path::Path;
+use std::process::ExitCode;
+
+use model::{bench, differ, generate, panelrun, print, record};
+
+const USAGE: &str = "usage:
+  model run < input > output
+  model print < input > output
+  model generate SEED CASE > input
+  model differ PANELRUN_PATH SEED COUNT
+  model record SEED COUNT DIR
+  model check SEED COUNT DIR
+  model bench N
+  model events KIND N > input      (telegrams, levels, ticks or mixed)";
+
+fn main() -> ExitCode {
+    let words: Vec<String> = env::args().skip(1).collect();
+    let words: Vec<&str> = words.iter().map(String::as_str).collect();
+    match command(&words) {
+        Ok(true) => ExitCode::SUCCESS,
+        Ok(false) => ExitCode::FAILURE,
+        Err(error) => {
+            eprintln!("{error}");
+            ExitCode::FAILURE
+        }
+    }
+}
+
+/// Runs one command; false when a comparison fails.
+fn command(words: &[&str]) -> io::Result<bool> {
+    match words {
+        ["run"] => run(),
+        ["print"] => print::print(io::stdin().lock(), io::stdout().lock()).map(|()| true),
+        ["generate", seed, case] => generate_case(number(seed)?, number(case)?),
+        ["differ", program, seed, count] => compare(program, number(seed)?, number(count)?),
+        ["record", seed, count, folder] => write_record(number(seed)?, number(count)?, folder),
+        ["check", seed, count, folder] => check_record(number(seed)?, number(count)?, folder),
+        ["bench", count] => {
+            bench::bench(number(count)? as usize);
+            Ok(true)
+        }
+        ["events", kind, count] if bench::KINDS.contains(kind) => {
+            io::stdout().lock().write_all(&bench::input(kind, number(count)? as usize))?;
+            Ok(true)
+        }
+        _ => Err(io::Error::other(USAGE)),
+    }
+}
+
+fn number(word: &str) -> io::Result<u64> {
+    word.parse().map_err(|_| io::Error::other(format!("not a number: {word}")))
+}
+
+fn run() -> io::Result<bool> {
+    let mut input = Vec::new();
+    io::stdin().lock().read_to_end(&mut input)?;
+    io::stdout().lock().write_all(panelrun::run(&input).as_bytes())?;
+    Ok(true)
+}
+
+fn generate_case(seed: u64, case: u64) -> io::Result<bool> {
+    io::stdout().lock().write_all(&generate::case(seed, case).input)?;
+    Ok(true)
+}
+
+fn compare(program: &str, seed: u64, count: u64) -> io::Result<bool> {
+    let (seen, difference) = differ::differ(program, seed, count)?;
+    if let Some(difference) = difference {
+        differ::report(&difference)?;
+        return Ok(false);
+    }
+    println!("{} cases and {} lines compared, no difference", seen.runs, seen.lines);
+    print!("{seen}");
+    Ok(true)
+}
+
+fn write_record(seed: u64, count: u64, folder: &str) -> io::Result<bool> {
+    let recording = record::write(seed, count, Path::new(folder))?;
+    println!("{count} cases, {} bytes", recording.cases.len());
+    Ok(true)
+}
+
+fn check_record(seed: u64, count: u64, folder: &str) -> io::Result<bool> {
+    let same = record::check(seed, count, Path::new(folder))?;
+    println!("{}", if same { "the files are those of the seed" } else { "the files differ" });
+    Ok(same)
+}
