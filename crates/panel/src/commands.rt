@@ -130,12 +130,24 @@ fn extremes_at(any: bool, error: u32, result: i32) -> Extremes
     ensures { λ x. ⌜ x ≡ extremesAt any error result ⌝ }
 {
     if !any {
-        return Extremes { any: false, least: 0, greatest: 0 };
+        return Extremes {
+            any: false,
+            least: 0,
+            greatest: 0,
+        };
     }
     if error != 0 {
-        return Extremes { any: false, least: 0, greatest: 0 };
+        return Extremes {
+            any: false,
+            least: 0,
+            greatest: 0,
+        };
     }
-    Extremes { any: true, least: result, greatest: result }
+    Extremes {
+        any: true,
+        least: result,
+        greatest: result,
+    }
 }
 
 // Clear least and greatest: both at the present result, or none.
@@ -208,10 +220,16 @@ pub fn command(action: u32, s: State) -> Acted
 {
     let note = refusal(action, s);
     if note != 0 {
-        return Acted { state: s, note: note };
+        return Acted {
+            state: s,
+            note: note,
+        };
     }
     let next = carry_out(action, s);
-    Acted { state: next, note: 0 }
+    Acted {
+        state: next,
+        note: 0,
+    }
 }
 
 // Whether input i + 1 is high.
@@ -305,7 +323,10 @@ fn input(x: Acted, levels: u8, i: usize) -> Acted
         let y = command(number(&s.table, slots::ACTION + slots::INPUT_STRIDE * i), s);
         let note = first_note(x.note, y.note);
         let next = y.state;
-        return Acted { state: next, note: note };
+        return Acted {
+            state: next,
+            note: note,
+        };
     }
     x
 }

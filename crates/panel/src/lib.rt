@@ -140,7 +140,10 @@ pub fn on_tick(s: State, ms: u16) -> Answer
     ensures { λ r. ⌜ r ≡ tickOf s ms ⌝ }
 {
     let switches = s.switches;
-    answered(state::with_switches(s, switching::tick_all(ms, switches)), 0)
+    answered(
+        state::with_switches(s, switching::tick_all(ms, switches)),
+        0,
+    )
 }
 
 // An event.

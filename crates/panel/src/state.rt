@@ -77,7 +77,14 @@ pub fn with_preselection(s: State, k: usize, x: i32) -> State
 }
 
 // The state with a telegram as the last one accepted, and all that follows from it.
-pub fn took(s: State, telegram: u32, reading: Reading, extremes: Extremes, switches: [Switch; 4], shown: i32) -> State
+pub fn took(
+    s: State,
+    telegram: u32,
+    reading: Reading,
+    extremes: Extremes,
+    switches: [Switch; 4],
+    shown: i32,
+) -> State
     ensures { λ r. ⌜ r ≡ withShown (withSwitches (withReading (withTelegram s telegram) reading extremes) switches) shown ⌝ }
 {
     let mut n = s;

@@ -36,6 +36,7 @@ judged-within b z =
   where
     Q : Measured → Type 0
     Q m = Within Z (m .result)
+
     zero : Within Z (pos 0)
     zero = record { above = omega arith; below = omega arith }
 

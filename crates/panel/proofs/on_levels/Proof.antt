@@ -38,8 +38,17 @@ returns-2 c = let sh = c .before .before in
     let n = x .commands .result .state in
     let r : bk w32 (n .reading .result) ≡ n .reading .result = search needs in
     let h = back-at w32 (n .shown) (sh .before .before .before .before .struct-told2 .given .1 .1 .1 .1 .1 .0 .1) in
-    rw (le-leb _ _ (x .before .if1 .left), c .answered2 .ensures, c .before .settled .ensures, back-at w32 (sh .shown-after .result) (sh .shown-after .ok),
-        sh .shown-after .ensures, sw .switches-after .ensures, r, h, x .commands .ensures)
+    rw (
+      le-leb _ _ (x .before .if1 .left),
+      c .answered2 .ensures,
+      c .before .settled .ensures,
+      back-at w32 (sh .shown-after .result) (sh .shown-after .ok),
+      sh .shown-after .ensures,
+      sw .switches-after .ensures,
+      r,
+      h,
+      x .commands .ensures,
+    )
 
 pub on-levels-spec : {M : Type 1} → statement M
 on-levels-spec =

@@ -52,8 +52,19 @@ returns-2 c = let sh = c .before .before in
     let a = el .before .accepts in
     let r : bk w32 (rd .read .result .result) ≡ rd .read .result .result = search needs in
     let h = held-is (sh .before .before .before .before) in
-    rw (← a .ensures, not-false (a .result) (el .if1 .left), c .answered2 .ensures, c .before .took .ensures, back-at w32 (sh .shown-after .result) (sh .shown-after .ok),
-        sh .shown-after .ensures, sw .switches-after .ensures, no .noted .ensures, r, h, rd .read .ensures)
+    rw (
+      ← a .ensures,
+      not-false (a .result) (el .if1 .left),
+      c .answered2 .ensures,
+      c .before .took .ensures,
+      back-at w32 (sh .shown-after .result) (sh .shown-after .ok),
+      sh .shown-after .ensures,
+      sw .switches-after .ensures,
+      no .noted .ensures,
+      r,
+      h,
+      rd .read .ensures,
+    )
 
 pub on-telegram-spec : {M : Type 1} → statement M
 on-telegram-spec =

@@ -30,8 +30,16 @@ returns c = let b = c .before .before in
     let e = n .before .before .error-number in
     let m = n .before .before .before .args .m in
     let r : bk w32 (m .result) ≡ m .result = search needs in
-    rw (eq-eqb _ _ (sym (e .ensures) ∙ n .before .if1 .taken), c .drive-for .ensures, r, back-at w32 (b .word2 .result) (b .word2 .ok), back-at w32 (b .before .word .result) (b .before .word .ok),
-        b .word2 .ensures, b .before .word .ensures, n .number .ensures)
+    rw (
+      eq-eqb _ _ (sym (e .ensures) ∙ n .before .if1 .taken),
+      c .drive-for .ensures,
+      r,
+      back-at w32 (b .word2 .result) (b .word2 .ok),
+      back-at w32 (b .before .word .result) (b .before .word .ok),
+      b .word2 .ensures,
+      b .before .word .ensures,
+      n .number .ensures,
+    )
 
 returns-2 : tie.Need-returns-2
 unfolding driveAt

@@ -43,10 +43,11 @@ loop-less c = omega arith
 loop-again : tie.Need-loop-again Inv-loop μ-loop
 loop-again c =
     let l = c .before .before .before .before .before .loop in
-    let log = c .before .before .before .before .before .before .before .args .log .now in
-    (omega arith,
-    c .step .ensures .1,
-    l .inv .2 ∙ words-more (l .last) log (l .i) (omega arith) ∙ rw (c .step .ensures .0, c .before .event-of .ensures))
+    let log = c .before .before .before .before .before .before .before .args .log .now in (
+      omega arith,
+      c .step .ensures .1,
+      l .inv .2 ∙ words-more (l .last) log (l .i) (omega arith) ∙ rw (c .step .ensures .0, c .before .event-of .ensures),
+    )
 
 returns : tie.Need-returns Inv-loop μ-loop
 returns c =

@@ -62,8 +62,17 @@ unfolding preselectionOf
 returns c = let b = c .before .before .before in
     let d = b .before .before .before in
     let w = d .before .word in
-    rw (back-at w32 (w .result) (w .ok), w .ensures, d .number .ensures, b .before .before .number2 .ensures, b .before .number3 .ensures, b .number4 .ensures,
-        c .before .before .number5 .ensures, c .before .number6 .ensures, c .number7 .ensures)
+    rw (
+      back-at w32 (w .result) (w .ok),
+      w .ensures,
+      d .number .ensures,
+      b .before .before .number2 .ensures,
+      b .before .number3 .ensures,
+      b .number4 .ensures,
+      c .before .before .number5 .ensures,
+      c .before .number6 .ensures,
+      c .number7 .ensures,
+    )
 
 pub preselection-spec : {M : Type 1} → statement M
 preselection-spec =

@@ -35,8 +35,17 @@ unfolding scalingOf
 returns c = let b = c .before .before in
     let d = b .before .before in
     let w = d .before .before .word in
-    rw (back-at w32 (w .result) (w .ok), back-at w32 (b .word2 .result) (b .word2 .ok), w .ensures, d .before .number .ensures, d .number2 .ensures, b .before .number3 .ensures,
-        b .word2 .ensures, c .before .number4 .ensures, c .number5 .ensures)
+    rw (
+      back-at w32 (w .result) (w .ok),
+      back-at w32 (b .word2 .result) (b .word2 .ok),
+      w .ensures,
+      d .before .number .ensures,
+      d .number2 .ensures,
+      b .before .number3 .ensures,
+      b .word2 .ensures,
+      c .before .number4 .ensures,
+      c .number5 .ensures,
+    )
 
 pub scaling-spec : {M : Type 1} → statement M
 scaling-spec =
