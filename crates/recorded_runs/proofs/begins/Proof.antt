@@ -1,0 +1,21 @@
+-- `recorded_runs::begins` is safe: the part is within the buffer.
+use borrow.Author.Needs.{needs}
+use lib.ListN.{length-take}
+use native.Mathlib.Omega.{arith}
+use Rattle.recorded_runs.proofs.begins.Statement.{statement}
+use Rattle.recorded_runs.proofs.begins.Tie as tie
+
+returns : tie.Need-returns
+returns c = search needs
+
+slice-aggregate-same : tie.Need-slice-aggregate-same
+slice-aggregate-same c = simp length-take (omega arith)
+
+same-requires : tie.Need-same-requires
+same-requires c κs = search needs
+
+returns-2 : tie.Need-returns-2
+returns-2 c = search needs
+
+pub begins-spec : {M : Type 1} → statement M
+begins-spec = tie.close (tie.spec returns slice-aggregate-same same-requires returns-2)
