@@ -1,12 +1,12 @@
 -- The search among the control points, and what it says of the curve: the highest used point with x at most v picks the segment on which v lies.
 -- Paper 01, "From telegram to result", step 4. Assumes nothing.
 use mathlib.Core.Path.{_≡_, refl, sym, ap, ap₂, _∙_, subst}
-use mathlib.Core.Bool.{true, false}
+use mathlib.Core.Bool.{true, false, cond}
 use mathlib.Core.List.{List, _∷_}
 use Prim.Native.Nat.{ℕ, zero, suc, _+_, _*_, _-_, _≤_, _<_}
 use native.Mathlib.Decide.{decLe}
 use native.Mathlib.Nat.{add-zero}
-use native.Mathlib.Numerals.{add-one}
+use native.Mathlib.Numerals.{add-one, unary-clauses}
 use native.Mathlib.Omega.{arith}
 use lib.Dec.{lit≤, T, leb, leb→le, nleb→lt}
 use lib.IntN.{ℤ, pos, negsuc, natAbs, _+ℤ_, _-ℤ_, _*ℤ_}
@@ -53,6 +53,12 @@ line-value x y x₁ y₁ v h = same (x₁ -ℤ x) (y₁ -ℤ y) (natAbs (x₁ -�
         ∙ ap (λ (z : ℤ). roundDiv z (pos k)) (ring (var y ⊗ lit k ⊕ (var v ⊖ var x) ⊗ var E) (var y ⊗ lit k ⊕ (var v ⊖ var x ⊗ lit 1) ⊗ var E) (omega arith))
 
 -- ---- what is found
+
+-- the search among i points looks at the last of them first
+pub last-first : (ws : List ℤ) (i : ℕ) (v : ℤ) → 0 < i → highestOf ws i v ≡ cond (leZ (pointAt ws (i - 1) .x) v) (At (i - 1)) (highestOf ws (i - 1) v)
+unfolding highestOf
+last-first ws zero v h = absurd (omega arith)
+last-first ws (suc i) v h = simp unary-clauses
 
 -- a place that was found: used, at or below v, and every used point after it is above v
 pub record Highest (ws : List ℤ) (n : ℕ) (v : ℤ) (i : ℕ) : Type 0 where

@@ -1,10 +1,8 @@
 // From a position to the result: direction, offset, round loop, scaling, linearization and the range error.
 // Uses `integers` for the rounding division and the remainder; knows plain numbers and the points' words, no slots.
-ghost use mathlib.Core.Bool.{cond};
 ghost use mathlib.Core.Path.{_≡_};
 ghost use Prim.Native.Nat.{_+_, _*_, _^_, _≤_, _<_};
 ghost use lib.ListN.{length};
-ghost use lib.Signed.{leZ};
 ghost use Rattle.integers.specs.Int.{Within};
 ghost use Rattle.integers.specs.Fraction.{whole, nearest};
 ghost use Rattle.measurement.specs.Curve.{highestOf, lineValue, pointsFrom, fourQuadrants, oneQuadrant, linearizedOf};
@@ -128,29 +126,20 @@ pub fn judged(reported: bool, v: i64) -> Measured
     }
 }
 
-// The later of two findings: point i where its x is at most v, else the one found before.
-fn later(found: Found, i: usize, x: i32, v: i64) -> Found
-    ensures { λ r. ⌜ r ≡ cond (leZ x v) (Found.At i) found ⌝ }
-{
-    let at = x as i64;
-    if at <= v {
-        return Found::At(i);
-    }
-    found
-}
-
-// The highest of the first n control points whose x is at most v, or none.
+// The highest of the first n control points whose x is at most v, or none: from the last down.
 pub fn highest(points: &[i32], n: usize, v: i64) -> Found
     requires { ⌜ 2 * n ≤ length (now points) ⌝ }
     ensures { λ r. ⌜ r ≡ highestOf (now (points .entry)) n v ⌝ }
 {
-    let mut found = Found::Nothing;
-    let mut i: usize = 0;
-    while i < n {
-        found = later(found, i, points[2 * i], v);
-        i += 1;
+    let mut i = n;
+    while i > 0 {
+        i -= 1;
+        let x = points[2 * i] as i64;
+        if x <= v {
+            return Found::At(i);
+        }
     }
-    found
+    Found::Nothing
 }
 
 // The straight line from (x, y) to (x1, y1) at v: the whole fraction, rounded once.
