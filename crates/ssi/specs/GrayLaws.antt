@@ -1,13 +1,13 @@
 -- The Gray code: the counting rule is exclusive or, and coding and decoding undo each other. Here a bit is counted from 0.
 use mathlib.Core.Path.{_≡_, refl, sym, ap, ap₂, _∙_, subst}
 use Prim.Native.Nat.{ℕ, zero, suc, _+_, _-_, _*_, _/_, _%_, _^_, _≤_, _<_}
-use native.Mathlib.Nat.{le-refl, le-antisymm, lt-of-lt-of-le, mod-lt, mod-mod, zero-lt-suc, mul-assoc, pow-suc, pow-succ', add-mod, div-one, mul-one, add-zero, zero-add, add-suc, div-lt-iff-lt-mul, div-add-mod', div-div-eq-div-mul, div-eq-of-lt, zero-mul, le-add-right, mod-eq-of-lt}
-use native.Mathlib.Numerals.{add-one}
+use native.Mathlib.Nat.{le-refl, lt-of-lt-of-le, mod-lt, mod-mod, zero-lt-suc, mul-assoc, pow-suc, pow-succ', add-mod, div-one, mul-one, add-zero, zero-add, add-suc, div-lt-iff-lt-mul, div-add-mod', div-div-eq-div-mul, div-eq-of-lt, zero-mul, le-add-right, mod-eq-of-lt, div-le-self}
+use native.Mathlib.Numerals.{add-one, unary-clauses}
 use native.Mathlib.Omega.{arith}
 use lib.Arith.{digits-lt, digits-div, digits-mod, bin-ind, lt-one}
-use lib.Bits.{bitXor, bitOr, differ, xor-step, xor-shr, or-shifted-r}
+use lib.Bits.{bitXor, differ, xor-step, xor-shr}
 use lib.Count.{ones, onesIn, ones-step}
-use lib.Pow.{pow-pos, pow-mono, shl-exact, field, mod-mod-pow}
+use lib.Pow.{pow-pos, pow-mono, field, mod-mod-pow}
 use Rattle.ssi.specs.Telegram.{grayDecoded, onesAbove}
 use Rattle.ssi.specs.Builder.{grayCode}
 
@@ -212,20 +212,17 @@ bit-decoded N k t h =
     ap (λ (x : ℕ). x / 2 ^ k % 2) (decoded-counted N N t (le-refl N)) ∙ bit-counted N k (t % 2 ^ N) h
     ∙ ap (λ (x : ℕ). x % 2) (sym (ones-above N k t (weaker N k h)))
 
-counted-next : (k u : ℕ) → ones (u / 2 ^ k) % 2 * 2 ^ k + grayCounted k u ≡ grayCounted (k + 1) u
-unfolding grayCounted
-counted-next k u = ap (λ (x : ℕ). grayCounted x u) (sym (add-one k))
+-- the position without its k low bits, one bit more at a time from the top down
+pub decoded-next : (N k t : ℕ) → 0 < k → k ≤ N → 2 * (grayDecoded N N t / 2 ^ k) + ones (t % 2 ^ N / 2 ^ (k - 1)) % 2 ≡ grayDecoded N N t / 2 ^ (k - 1)
+decoded-next N zero t z h = absurd (omega arith)
+decoded-next N (suc k) t z h =
+    let D = grayDecoded N N t in
+    simp unary-clauses
+    (rw (← div-div-eq-div-mul D (2 ^ k) 2, ← ones-above N k t (weaker N k h), ← bit-decoded N k t h) (omega (arith, div-add-mod' (D / 2 ^ k) 2)))
 
--- p has the position's k low bits, and the next is put above them
-pub decoded-more : (N k t own p : ℕ) → k < N → N ≤ 32 → own ≡ t % 2 ^ N → p ≡ grayDecoded N k t
-    → bitOr p (ones (own / 2 ^ k) % 2 * 2 ^ k % 2 ^ 32) ≡ grayDecoded N (k + 1) t
-decoded-more N k t own p h l o e =
-    let less : k ≤ N = weaker N k h in
-    ap₂ (λ (x y : ℕ). bitOr x (ones (y / 2 ^ k) % 2 * 2 ^ k % 2 ^ 32)) (e ∙ decoded-counted N k t less) o
-    ∙ ap (bitOr (grayCounted k (t % 2 ^ N))) (shl-exact 1 k 32 (mod-lt (ones (t % 2 ^ N / 2 ^ k)) two-pos) (omega arith))
-    ∙ or-shifted-r (ones (t % 2 ^ N / 2 ^ k) % 2) k (grayCounted k (t % 2 ^ N)) (counted-lt k (t % 2 ^ N))
-    ∙ counted-next k (t % 2 ^ N)
-    ∙ sym (decoded-counted N (k + 1) t (omega arith))
+-- the position has N bits, and fits 32, whole or divided
+pub decoded-lt : (N t : ℕ) → grayDecoded N N t < 2 ^ N
+decoded-lt N t = rw (decoded-counted N N t (le-refl N)) (counted-lt N (t % 2 ^ N))
 
-pub decoded-all : (N k t p : ℕ) → N ≤ k → k ≤ N → p ≡ grayDecoded N k t → p ≡ grayDecoded N N t
-decoded-all N k t p a b e = e ∙ ap (λ (x : ℕ). grayDecoded N x t) (le-antisymm b a)
+pub decoded-fits : (N j t : ℕ) → N ≤ 32 → grayDecoded N N t / j < 2 ^ 32
+decoded-fits N j t h = omega (arith, div-le-self (grayDecoded N N t) j, decoded-lt N t, pow-mono h)

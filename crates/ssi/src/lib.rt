@@ -90,17 +90,17 @@ fn without(t: u32, n: u32) -> u32
     t & !(1 << (n - 1))
 }
 
-// The position's n bits of a Gray telegram of n bits: each is 1 when an odd number of ones stands at it and above.
+// The position's n bits of a Gray telegram of n bits, from the top down: each is 1 when an odd number of ones stands at it and above.
 fn gray(t: u32, n: u32) -> u32
     requires { ⌜ (1 ≤ n) × (n ≤ 32) ⌝ }
     ensures { λ r. ⌜ r ≡ grayDecoded n n t ⌝ }
 {
     let own = t & mask(n);
     let mut p: u32 = 0;
-    let mut k: u32 = 0;
-    while k < n {
-        p = p | ((u32::count_ones(own >> k) % 2) << k);
-        k += 1;
+    let mut k = n;
+    while k > 0 {
+        k -= 1;
+        p = 2 * p + u32::count_ones(own >> k) % 2;
     }
     p
 }
