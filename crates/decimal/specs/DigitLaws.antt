@@ -4,7 +4,8 @@ use mathlib.Core.Path.{_≡_, refl, sym, ap, _∙_}
 use mathlib.Core.Bool.{Bool, true, false, cond, _&&_, false≢true}
 use mathlib.Core.List.{List, [], _∷_, _++_, append-assoc, append-nil}
 use native.Mathlib.Omega.{arith}
-use native.Mathlib.Nat.{div-lt-self, div-add-mod', mod-lt, mul-assoc, mul-le-mul-right, lt-of-lt-of-le, pow-suc, pow-succ'}
+use native.Mathlib.Nat.{div-lt-self, div-add-mod', mod-lt, mul-assoc, mul-le-mul-right, lt-of-lt-of-le, pow-suc, pow-succ', pow-le-pow-right}
+use native.Mathlib.Decide.{decLe}
 use lib.Dec.{ltb, leb}
 use lib.ListN.{length, getD, length-append, List·getD-append}
 use borrow.Author.Tests.{ltb-true, ltb-false, lt-ltb, le-ltb, leb-true, le-leb}
@@ -85,6 +86,12 @@ digits-some n = some-in 17 n
 pub digits-few : (n : ℕ) → length (digitsOf n) ≤ 18
 unfolding digitsOf
 digits-few n = few-in 18 n
+
+-- a number below 10 ^ k has at most k digits
+pub digits-within : (k n : ℕ) → n ≤ largest → 1 ≤ k → n < 10 ^ k → length (digitsOf n) ≤ k
+unfolding digitsOf
+digits-within zero n i p h = absurd (omega arith)
+digits-within (suc k) n i p h = rw (enough-alike 17 k n (omega arith) h) (few-in (suc k) n)
 
 -- ---- what they stand for
 
@@ -181,3 +188,12 @@ value-below v (b ∷ s) e =
     let m : suc (v * 10 + (b - 48)) ≤ suc v * 10 = omega arith in
     let r = value-below (v * 10 + (b - 48)) s (all-tail b s e) in
     lt-of-lt-of-le r (rw (pow-succ' 10 (length s), ← mul-assoc (suc v) 10 (10 ^ length s)) (mul-le-mul-right (10 ^ length s) m))
+
+-- a number from 10 ^ k on has more than k digits
+pub digits-beyond : (k n : ℕ) → n ≤ largest → 10 ^ k ≤ n → k < length (digitsOf n)
+digits-beyond k n i h = go (decLe (length (digitsOf n)) k)
+  where
+    go : Dec (length (digitsOf n) ≤ k) → k < length (digitsOf n)
+    go (yes y) =
+        absurd (omega (arith, pow-le-pow-right {n = 10} (omega arith) y, value-below 0 (digitsOf n) (digits-all n i), value-digits n i))
+    go (no y) = omega (arith, y)

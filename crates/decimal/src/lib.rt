@@ -17,15 +17,15 @@ pub enum Parsed {
     Malformed,
 }
 
-// How many digits n has.
+// How many digits n has: the least k above 0 with n below 10 ^ k.
 fn places(n: u64) -> usize
     requires { ⌜ n ≤ largest ⌝ }
     ensures { λ r. ⌜ r ≡ length (digitsOf n) ⌝ }
 {
     let mut k: usize = 1;
-    let mut rest = n;
-    while rest >= 10 {
-        rest = rest / 10;
+    let mut top: u64 = 10;
+    while top <= n {
+        top = top * 10;
         k += 1;
     }
     k
