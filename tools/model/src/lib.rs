@@ -2,6 +2,7 @@
 //! alone, with random cases and comparisons.
 
 pub mod analog;
+pub mod answers;
 pub mod bench;
 pub mod coverage;
 pub mod differ;

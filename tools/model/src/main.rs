@@ -5,15 +5,16 @@ use std::io::{self, Read, Write};
 use std::path::Path;
 use std::process::ExitCode;
 
-use model::{bench, differ, generate, panelrun, print, record};
+use model::record::{self, Recording};
+use model::{answers, bench, differ, generate, panelrun, print};
 
 const USAGE: &str = "usage:
   model run < input > output
   model print < input > output
   model generate SEED CASE > input
   model differ PANELRUN_PATH SEED COUNT
-  model record SEED COUNT DIR
-  model check SEED COUNT DIR
+  model record KIND SEED COUNT DIR   (runs or answers)
+  model check KIND SEED COUNT DIR
   model bench N
   model events KIND N > input      (telegrams, levels, ticks or mixed)";
 
@@ -37,8 +38,12 @@ fn command(words: &[&str]) -> io::Result<bool> {
         ["print"] => print::print(io::stdin().lock(), io::stdout().lock()).map(|()| true),
         ["generate", seed, case] => generate_case(number(seed)?, number(case)?),
         ["differ", program, seed, count] => compare(program, number(seed)?, number(count)?),
-        ["record", seed, count, folder] => write_record(number(seed)?, number(count)?, folder),
-        ["check", seed, count, folder] => check_record(number(seed)?, number(count)?, folder),
+        ["record", kind, seed, count, folder] => {
+            write_record(&recording(kind, number(seed)?, number(count)?)?, folder)
+        }
+        ["check", kind, seed, count, folder] => {
+            check_record(&recording(kind, number(seed)?, number(count)?)?, folder)
+        }
         ["bench", count] => {
             bench::bench(number(count)? as usize);
             Ok(true)
@@ -78,14 +83,24 @@ fn compare(program: &str, seed: u64, count: u64) -> io::Result<bool> {
     Ok(true)
 }
 
-fn write_record(seed: u64, count: u64, folder: &str) -> io::Result<bool> {
-    let recording = record::write(seed, count, Path::new(folder))?;
-    println!("{count} cases, {} bytes", recording.cases.len());
+fn recording(kind: &str, seed: u64, count: u64) -> io::Result<Recording> {
+    match kind {
+        "runs" => Ok(record::recording(seed, count)),
+        "answers" => Ok(answers::recording(seed, count)),
+        _ => Err(io::Error::other(USAGE)),
+    }
+}
+
+fn write_record(recording: &Recording, folder: &str) -> io::Result<bool> {
+    recording.write(Path::new(folder))?;
+    let count = recording.purposes.lines().count();
+    println!("{}: {count} cases, {} bytes", recording.name, recording.cases.len());
     Ok(true)
 }
 
-fn check_record(seed: u64, count: u64, folder: &str) -> io::Result<bool> {
-    let same = record::check(seed, count, Path::new(folder))?;
-    println!("{}", if same { "the files are those of the seed" } else { "the files differ" });
+fn check_record(recording: &Recording, folder: &str) -> io::Result<bool> {
+    let same = recording.is_in(Path::new(folder))?;
+    let verdict = if same { "the files are those of the seed" } else { "the files differ" };
+    println!("{}: {verdict}", recording.name);
     Ok(same)
 }

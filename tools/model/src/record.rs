@@ -1,31 +1,51 @@
-//! Recorded cases: inputs with the outputs the model expects, in one file, and what each is for.
+//! Recorded runs: inputs with the outputs the model expects, in one file, and what each is for.
 
 use std::fs;
 use std::io;
-use std::path::Path;
+use std::path::{Path, PathBuf};
 
 use crate::coverage;
 use crate::generate::{self, theme};
 use crate::rng::Rng;
 
-/// For each case: input length, output length (4 bytes each, lowest first), input, output.
-pub const CASES: &str = "cases.bin";
-/// One line for each case.
-pub const PURPOSES: &str = "cases.txt";
-
 /// Inputs tried for a case until one meets its theme.
 const TRIES: u64 = 400;
 
-/// The two files of a seed.
+/// Recorded cases and a line for each, as the files `NAME.bin` and `NAME.txt`.
 pub struct Recording {
+    pub name: &'static str,
     pub cases: Vec<u8>,
     pub purposes: String,
 }
 
-/// Short cases of a seed, the themes in turn.
+impl Recording {
+    pub fn new(name: &'static str) -> Recording {
+        Recording { name, cases: Vec::new(), purposes: String::new() }
+    }
+
+    /// Writes the files into a folder.
+    pub fn write(&self, folder: &Path) -> io::Result<()> {
+        fs::create_dir_all(folder)?;
+        self.files(folder).iter().try_for_each(|(path, bytes)| fs::write(path, bytes))
+    }
+
+    /// Whether a folder has the files.
+    pub fn is_in(&self, folder: &Path) -> io::Result<bool> {
+        let [cases, purposes] = self.files(folder);
+        Ok(fs::read(cases.0)? == cases.1 && fs::read(purposes.0)? == purposes.1)
+    }
+
+    fn files(&self, folder: &Path) -> [(PathBuf, &[u8]); 2] {
+        let path = |end: &str| folder.join(format!("{}.{end}", self.name));
+        [(path("bin"), &self.cases[..]), (path("txt"), self.purposes.as_bytes())]
+    }
+}
+
+/// Short runs of a seed, the themes in turn. For each: input length, output length (4 bytes each,
+/// lowest first), input, output.
 pub fn recording(seed: u64, count: u64) -> Recording {
     let themes = theme::all();
-    let mut recording = Recording { cases: Vec::new(), purposes: String::new() };
+    let mut recording = Recording::new("cases");
     for index in 0..count {
         let theme = themes[index as usize % themes.len()];
         let (input, output, met) = short_case(seed, index, theme);
@@ -52,21 +72,4 @@ fn short_case(seed: u64, index: u64, theme: theme::Theme) -> (Vec<u8>, String, b
         }
     }
     unreachable!()
-}
-
-/// Writes the files of a seed into a folder.
-pub fn write(seed: u64, count: u64, folder: &Path) -> io::Result<Recording> {
-    let recording = recording(seed, count);
-    fs::create_dir_all(folder)?;
-    fs::write(folder.join(CASES), &recording.cases)?;
-    fs::write(folder.join(PURPOSES), &recording.purposes)?;
-    Ok(recording)
-}
-
-/// Whether the files in a folder are those of a seed.
-pub fn check(seed: u64, count: u64, folder: &Path) -> io::Result<bool> {
-    let recording = recording(seed, count);
-    let cases = fs::read(folder.join(CASES))?;
-    let purposes = fs::read(folder.join(PURPOSES))?;
-    Ok(cases == recording.cases && purposes == recording.purposes.as_bytes())
 }

@@ -2,6 +2,7 @@
 
 pub mod faults;
 pub mod logs;
+pub mod moment;
 pub mod tables;
 pub mod theme;
 
