@@ -54,7 +54,7 @@ pub struct Opened {
 }
 
 // A word of 32 bits as a signed word.
-fn signed(w: u32) -> i32
+pub fn signed(w: u32) -> i32
     ensures { λ r. ⌜ r ≡ signedOf w ⌝ }
 {
     if w < 0x8000_0000 {
