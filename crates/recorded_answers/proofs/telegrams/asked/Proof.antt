@@ -1,0 +1,67 @@
+-- `recorded_answers::telegrams::asked` is safe: the layout of a valid table is sound, a turn has 10 to 16 bits, and the question is within the case.
+use native.Mathlib.Omega.{arith}
+use borrow.Author.Needs.{needs}
+use Rattle.parameters.specs.Ranges.{bits-per-turn-range}
+use Rattle.settings.specs.SettingsLaws.{layout-sound}
+use Rattle.ssi.specs.Sound.{Sound}
+use Rattle.recorded_answers.proofs.telegrams.asked.Statement.{statement}
+use Rattle.recorded_answers.proofs.telegrams.asked.Tie as tie
+
+layout-requires : tie.Need-layout-requires
+layout-requires c κs = search needs
+
+mul-at : tie.Need-mul-at
+mul-at c = search needs
+
+add-at : tie.Need-add-at
+add-at c = search needs
+
+add-n : tie.Need-add-n
+add-n c = search needs
+
+sound : (c : tie.After-layout) → Sound (c .layout .result)
+sound c = rw (c .layout .ensures) (layout-sound (c .before .pre .0))
+
+builds-requires : tie.Need-builds-requires
+builds-requires c κs = (sound c, omega arith)
+
+returns : tie.Need-returns
+returns c = search needs
+
+reads-requires : tie.Need-reads-requires
+reads-requires c κs = (sound (c .before .before), omega arith)
+
+returns-2 : tie.Need-returns-2
+returns-2 c = search needs
+
+number-requires : tie.Need-number-requires
+number-requires c κs = search needs
+
+diagnoses-requires : tie.Need-diagnoses-requires
+diagnoses-requires c κs =
+    let layout = c .before .before .before .before .before in
+    let turn = bits-per-turn-range (layout .before .pre .0) in
+    (sound layout, rw (c .number .ensures) (omega (arith, turn)), rw (c .number .ensures) (omega (arith, turn)), omega arith)
+
+returns-3 : tie.Need-returns-3
+returns-3 c = search needs
+
+returns-4 : tie.Need-returns-4
+returns-4 c = search needs
+
+pub asked-spec : {M : Type 1} → statement M
+asked-spec =
+    tie.close
+    (tie.spec
+    layout-requires
+    mul-at
+    add-at
+    add-n
+    builds-requires
+    returns
+    reads-requires
+    returns-2
+    number-requires
+    diagnoses-requires
+    returns-3
+    returns-4)

@@ -1,0 +1,82 @@
+// The questions of a case on telegrams: builder, reading and diagnosis under the layout of its table.
+use crate::case;
+use crate::case::Difference;
+use parameters::number;
+use parameters::slots;
+use ssi::Layout;
+ghost use Prim.Native.Nat.{_≤_, _<_};
+ghost use Rattle.parameters.specs.Valid.{Valid};
+ghost use Rattle.ssi.specs.Sound.{Sound};
+
+// Whether the builder answers as the question at word `at` has it.
+fn builds(l: Layout, c: &[u8; 728], at: usize) -> bool
+    requires { ⌜ Sound l × (at ≤ 150) ⌝ }
+{
+    let b = ssi::build(l, case::word(c, at), case::word(c, at + 1) == 1);
+    if b.refusal as u32 != case::word(c, at + 2) {
+        return false;
+    }
+    b.telegram == case::word(c, at + 3)
+}
+
+// Whether the telegram reads so.
+fn reads(l: Layout, c: &[u8; 728], at: usize) -> bool
+    requires { ⌜ Sound l × (at ≤ 150) ⌝ }
+{
+    let r = ssi::read(l, case::word(c, at + 4));
+    if r.refusal as u32 != case::word(c, at + 5) {
+        return false;
+    }
+    if r.position != case::word(c, at + 6) {
+        return false;
+    }
+    r.error as u32 == case::word(c, at + 7)
+}
+
+// Whether the telegram is diagnosed so.
+fn diagnoses(l: Layout, turn: u32, c: &[u8; 728], at: usize) -> bool
+    requires { ⌜ Sound l × (1 ≤ turn) × (turn < 32) × (at ≤ 150) ⌝ }
+{
+    let d = ssi::diagnose(l, turn, case::word(c, at + 4));
+    if d.refusal as u32 != case::word(c, at + 8) {
+        return false;
+    }
+    if d.turns != case::word(c, at + 9) {
+        return false;
+    }
+    d.place == case::word(c, at + 10)
+}
+
+// What differs in question q + 1.
+fn asked(t: &[i32; 104], c: &[u8; 728], q: usize) -> Difference
+    requires { ⌜ Valid (now t) × (q < 5) ⌝ }
+{
+    let l = settings::layout(t);
+    let at = case::QUESTIONS + case::QUESTION_WORDS * q;
+    let n = q as u64 + 1;
+    if !builds(l, c, at) {
+        return Difference::Builder(n);
+    }
+    if !reads(l, c, at) {
+        return Difference::Reading(n);
+    }
+    if !diagnoses(l, number(t, slots::BITS_PER_TURN), c, at) {
+        return Difference::Diagnosis(n);
+    }
+    Difference::Nothing
+}
+
+// What differs in the first question that is answered otherwise.
+pub fn all_asked(t: &[i32; 104], c: &[u8; 728]) -> Difference
+    requires { ⌜ Valid (now t) ⌝ }
+{
+    let mut q: usize = 0;
+    while q < case::QUESTION_COUNT {
+        let d = asked(t, c, q);
+        if case::differs(d) {
+            return d;
+        }
+        q += 1;
+    }
+    Difference::Nothing
+}
