@@ -16,7 +16,7 @@ use Rattle.integers.specs.Fraction.{Same}
 use Rattle.analog.specs.FloatValue.{Is, valueOf}
 use Rattle.analog.specs.AnalogCode.{codeOf, CodeFits}
 use Rattle.analog.specs.CodeLaws.{code-fits}
-use Rattle.analog.specs.Drives.{factor, divisor, offset, analogValue, float, quotientOf, floatOf, Unrounded, driveOf, driveValue, driveFor}
+use Rattle.analog.specs.Drives.{factor, divisor, offset, analogValue, float, quotientOf, floatOf, Unrounded, driveOf, driveValue}
 use Rattle.analog.specs.ExactSteps.{int-exact, cast-is, product-is, quotient-is, sum-is}
 use Rattle.analog.specs.FloatOrder.{is-same, lt-is, scaled-order, scaled-equal, same-trans, same-sym, same-refl}
 
@@ -78,7 +78,7 @@ drive-worth format code h =
     rw drive-float (is-same (floatOf format code) (analogValue format code .num) (divisor format) (divisor-above format) (unrounded format code h .result))
 
 -- and so, for every result, is the drive of the result's code
-pub drive-for-worth : (format : ℕ) (start end r : ℤ) → Same (driveValue (driveFor format start end r)) (analogValue format (codeOf format start end r))
+pub drive-for-worth : (format : ℕ) (start end r : ℤ) → Same (driveValue (driveOf format (codeOf format start end r))) (analogValue format (codeOf format start end r))
 drive-for-worth format start end r = drive-worth format (codeOf format start end r) (code-fits format start end r)
 
 -- ---- a format above 2 counts as 2

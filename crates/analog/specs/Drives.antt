@@ -7,7 +7,6 @@ use Rattle.integers.specs.Fraction.{Frac, frac}
 use Rattle.analog.specs.declared.Drive.{Drive}
 use Rattle.analog.specs.declared.Drive.the-variants.{Off, Volts, Milliamps}
 use Rattle.analog.specs.FloatValue.{Is, valueOf}
-use Rattle.analog.specs.AnalogCode.{codeOf}
 
 -- Analog value, "code × 10 ÷ 32,768; code × 20 ÷ 65,536; code × 16 ÷ 65,536 + 4"
 abbrev pub factor : ℕ → ℕ
@@ -60,7 +59,3 @@ abbrev pub driveValue : Drive → Frac
 driveValue Off = frac (pos 0) 1
 driveValue (Volts x) = valueOf x
 driveValue (Milliamps x) = valueOf x
-
--- the drive of a result that is not under an error
-abbrev pub driveFor : ℕ → ℤ → ℤ → ℤ → Drive
-driveFor format start end r = driveOf format (codeOf format start end r)

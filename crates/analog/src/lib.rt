@@ -3,7 +3,7 @@
 ghost use mathlib.Core.Path.{_≡_};
 ghost use lib.IntN.{pos};
 ghost use Rattle.analog.specs.AnalogCode.{upperOf, lowerOf, fraction, fullScale, lowest, held, roundedOf, codeOf, CodeFits};
-ghost use Rattle.analog.specs.Drives.{floatOf, driveOf, driveValue, analogValue, Unrounded, driveFor};
+ghost use Rattle.analog.specs.Drives.{floatOf, driveOf, driveValue, analogValue, Unrounded};
 ghost use Rattle.integers.specs.Fraction.{Same};
 
 // What the analog line is driven with.
@@ -123,11 +123,4 @@ pub fn drive_of(format: u32, code: i32) -> Drive
         1 => Drive::Milliamps(milliamps20(code)),
         _ => Drive::Milliamps(milliamps4(code)),
     }
-}
-
-// The drive of the result r between start and end in an analog format.
-pub fn drive_for(format: u32, start: i32, end: i32, r: i32) -> Drive
-    ensures { λ d. ⌜ d ≡ driveFor format start end r ⌝ }
-{
-    drive_of(format, code(format, start, end, r))
 }

@@ -1,159 +1,152 @@
-// Runs steps of one kind as often as it is asked, for bench/run to time, and prints the result in the end.
-// Arguments: t telegrams through a 24-point curve, l levels, c ticks, m mixed; and how many thousands of events.
+// Runs the events of a log through the step again and again, for bench/run to time, and prints a sum over all answers.
+// Standard input: an input of panelrun with at most 8,192 words of log. Argument: how often the log is run.
+// Uses `logrun` and `events` to read the input, `panel` for the steps, and `runs` for the words that stand for events.
+use analog::Drive;
+use commands::state::Live;
+use commands::state::Outcome;
+use commands::state::State;
 use decimal::Parsed;
+use events::Event;
+use events::Taken;
+use libc::STDIN_FILENO;
 use libc::STDOUT_FILENO;
-use panel::Answer;
-ghost use Rattle.panel.specs.Valid.{Good};
+ghost use Prim.Native.Nat.{_≤_, _*_};
+ghost use lib.ListN.{length};
+ghost use Rattle.commands.specs.State.{stateOf};
+ghost use Rattle.commands.specs.Valid.{Good};
 
-// The defaults in binary, with 24 control points.
-const TABLE: [i32; 104] = [
-    25,
-    13,
-    1,
-    25,
-    1,
-    0,
-    0,
-    0,
-    0,
-    1,
-    100000,
-    100000,
-    0,
-    2,
-    0,
-    0,
-    10000,
-    1000,
-    0,
-    0,
-    0,
-    1,
-    0,
-    0,
-    0,
-    2000,
-    0,
-    0,
-    0,
-    2,
-    0,
-    0,
-    0,
-    3000,
-    0,
-    0,
-    0,
-    3,
-    0,
-    0,
-    0,
-    4000,
-    0,
-    0,
-    0,
-    4,
-    0,
-    0,
-    0,
-    0,
-    2,
-    0,
-    2,
-    0,
-    2,
-    24,
-    0,
-    0,
-    1000,
-    1000,
-    2000,
-    2000,
-    3000,
-    2700,
-    4000,
-    3700,
-    5000,
-    4700,
-    6000,
-    5400,
-    7000,
-    6400,
-    8000,
-    7400,
-    9000,
-    8100,
-    10000,
-    9100,
-    11000,
-    10100,
-    12000,
-    10800,
-    13000,
-    11800,
-    14000,
-    12800,
-    15000,
-    13500,
-    16000,
-    14500,
-    17000,
-    15500,
-    18000,
-    16200,
-    19000,
-    17200,
-    20000,
-    18200,
-    21000,
-    18900,
-    22000,
-    19900,
-    23000,
-    20900,
-];
-
-// The event at place i of a kind: one in ten is levels and one a tick where they are mixed.
-fn event_word(kind: u8, i: u64) -> u64 {
-    let turn = i % 10;
-    if kind == b'l' || kind == b'm' && turn == 8 {
-        return 4294967296 + i % 8;
+// The word that stands for an event.
+fn word_of(e: Event) -> u64 {
+    match e {
+        Event::Telegram(w) => w as u64,
+        Event::Levels(l) => 0x1_0000_0000 + l as u64,
+        Event::Tick(ms) => 0x2_0000_0000 + ms as u64,
     }
-    if kind == b'c' || kind == b'm' && turn == 9 {
-        return 8589934592 + i % 100;
-    }
-    i % 1000 * 37 % 23000
 }
 
-// A thousand events of a kind.
-fn events_of(kind: u8) -> [u64; 1000] {
-    let mut words = [0u64; 1000];
+// The events of a log, as words that stand for them; says how many they are.
+fn collect(log: &[u8], events: &mut [u64]) -> usize
+    requires { ⌜ length (now log) ≤ 4 * length (now events) ⌝ }
+    ensures { λ r. ⌜ r ≤ length (now (events .exit)) ⌝ }
+{
+    let mut pending = events::fresh();
+    let mut count: usize = 0;
     let mut i: usize = 0;
-    while i < 1000 {
-        words[i] = event_word(kind, i as u64);
+    while i + 4 <= log.len() {
+        let s = events::word(
+            pending,
+            events::word_at(log[i], log[i + 1], log[i + 2], log[i + 3]),
+        );
+        pending = s.pending;
+        let taken = s.taken;
+        if let Taken::Happened(e) = taken {
+            events[count] = word_of(e);
+            count += 1;
+        }
+        i += 4;
+    }
+    count
+}
+
+// A number for each kind of drive, by its size.
+fn drive_part(d: Drive) -> u64
+    ensures { λ r. ⌜ r ≤ 5 ⌝ }
+{
+    match d {
+        Drive::Off => 1,
+        Drive::Volts(x) => 2 + above(x, 5.0),
+        Drive::Milliamps(x) => 4 + above(x, 12.0),
+    }
+}
+
+// 1 where x is above the limit, else 0.
+fn above(x: f32, limit: f32) -> u64
+    ensures { λ r. ⌜ r ≤ 1 ⌝ }
+{
+    if limit < x {
+        return 1;
+    }
+    0
+}
+
+// A signed word as a number that is not negative.
+fn raised(z: i32) -> u64
+    ensures { λ r. ⌜ r ≤ 4294967295 ⌝ }
+{
+    (z as i64 + 0x8000_0000) as u64
+}
+
+// The levels of the outputs as a number.
+fn outs_part(outs: [bool; 4]) -> u64
+    ensures { λ r. ⌜ r ≤ 15 ⌝ }
+{
+    bit(outs[0]) + 2 * bit(outs[1]) + 4 * bit(outs[2]) + 8 * bit(outs[3])
+}
+
+// 1 for high, 0 for low.
+fn bit(high: bool) -> u64
+    ensures { λ r. ⌜ r ≤ 1 ⌝ }
+{
+    if high {
+        return 1;
+    }
+    0
+}
+
+// What an answer adds to the sum.
+fn part(t: &[i32; 104], o: Outcome) -> u64 {
+    let l = o.live;
+    let reading = l.reading;
+    let error = reading.error;
+    let drive = reading.drive;
+    let switches = l.switches;
+    let values = raised(reading.result) + 3 * raised(l.shown);
+    let rest = 7 * outs_part(panel::outputs(t, switches)) + 11 * drive_part(drive);
+    values + rest + 5 * (measurement::error_number(error) as u64) + 13 * (o.note as u64)
+}
+
+// The live values and the sum so far.
+struct Summed {
+    live: Live,
+    sum: u64,
+}
+
+// One run of the events.
+fn run_once(t: &mut [i32; 104], x: Summed, words: &[u64]) -> Summed
+    requires { ⌜ Good (stateOf (now t) (x .live)) ⌝ }
+    ensures { λ r. ⌜ Good (stateOf (now (t .exit)) (r .live)) ⌝ }
+{
+    let mut live = x.live;
+    let mut sum = x.sum;
+    let mut i: usize = 0;
+    while i < words.len() {
+        let o = panel::advance(t, live, runs::event_of(words[i]));
+        sum = std::num::wrapping_add_u64(sum, part(t, o));
+        live = o.live;
         i += 1;
     }
-    words
+    Summed { live, sum }
 }
 
-// The answer after the events, again and again.
-fn repeated(a: Answer, words: &[u64], rounds: u64) -> Answer
-    requires { ⌜ Good (a .state) ⌝ }
-    ensures { λ r. ⌜ Good (r .state) ⌝ }
+// The sum over the answers to the events, run again and again.
+fn repeated(s: State, words: &[u64], rounds: u64) -> u64
+    requires { ⌜ Good s ⌝ }
 {
-    let mut last = a;
+    let mut table = s.table;
+    let l = s.live;
+    let mut x = Summed { live: l, sum: 0 };
     let mut left = rounds;
     while left > 0 {
-        last = runs::run_on(last, words);
+        x = run_once(&mut table, x, words);
         left -= 1;
     }
-    last
+    x.sum
 }
 
-// The second argument as a number, 0 where it is none.
+// The argument as a number, 0 where it is none.
 fn rounds() -> u64 {
     let mut word = [0u8; 32];
-    let n = os::arg(2, &mut word);
+    let n = os::arg(1, &mut word);
     match decimal::parse(&word[..n]) {
         Parsed::Number(z) => unsigned(z),
         Parsed::Malformed => 0,
@@ -169,12 +162,14 @@ fn unsigned(z: i64) -> u64 {
 }
 
 fn main() {
-    let mut kind = [b't'; 16];
-    os::arg(1, &mut kind);
-    let l = panel::load(&TABLE);
+    let mut table = [0u8; 416];
+    let n = io::read_full(STDIN_FILENO, &mut table);
+    let l = logrun::load(&table[..n]);
+    let mut log = [0u8; 32768];
+    let m = io::read_full(STDIN_FILENO, &mut log);
+    let mut words = [0u64; 8192];
+    let count = collect(&log[..m], &mut words);
     let s = l.state;
-    let words = events_of(kind[0]);
-    let last = repeated(panel::answered(s, 0), &words, rounds());
-    io::print_decimal(STDOUT_FILENO, parameters::unsigned(last.result) as u64);
+    io::print_decimal(STDOUT_FILENO, repeated(s, &words[..count], rounds()));
     io::write_all(STDOUT_FILENO, b"\n");
 }

@@ -2,21 +2,28 @@
 use mathlib.Core.Path.{_≡_}
 use mathlib.Core.List.{List, [], _∷_, _++_, append-assoc}
 use Prim.Native.Nat.{ℕ}
+use lib.IntN.{ℤ}
+use Rattle.commands.specs.declared.state.Live.{Live}
+use Rattle.commands.specs.declared.state.Outcome.{Outcome}
 use Rattle.decimal.specs.Decimal.{textOf}
 use Rattle.events.specs.declared.Event.{Event}
 use Rattle.measurement.specs.Measure.{errorNumber}
-use Rattle.panel.specs.declared.Answer.{Answer}
-use Rattle.lines.specs.Lines.{space, newline, number, kindLetter, outsText, analogText, codeIn, eventLine}
+use Rattle.panel.specs.Step.{answerOf, answerBy, outputsIn}
+use Rattle.lines.specs.Lines.{space, newline, number, kindLetter, outsText, analogText, eventLine}
 
 -- result shown error
-unfoldable pub valueFields : Answer → List ℕ
-valueFields a = textOf (a .result) ++ (space ∷ []) ++ (textOf (a .shown) ++ (space ∷ [])) ++ (number (errorNumber (a .error)) ++ (space ∷ []))
+unfoldable pub valueFields : Live → List ℕ
+valueFields l = textOf (l .reading .result) ++ (space ∷ []) ++ (textOf (l .shown) ++ (space ∷ [])) ++ (number (errorNumber (l .reading .error)) ++ (space ∷ []))
 
 -- outs analog note
-unfoldable pub driveFields : Answer → List ℕ
-driveFields a = outsText (a .outputs) ++ (space ∷ []) ++ (analogText (a .drive) (codeIn a) ++ (space ∷ [])) ++ (number (a .note) ++ (newline ∷ []))
+unfoldable pub driveFields : List ℤ → Outcome → List ℕ
+driveFields t o =
+    outsText (outputsIn t (o .live .switches)) ++ (space ∷ [])
+    ++ (analogText (o .live .reading .drive) (o .live .reading .code) ++ (space ∷ []))
+    ++ (number (o .note) ++ (newline ∷ []))
 
 -- the line is its parts
-pub line-parts : (count : ℕ) (e : Event) (a : Answer) → number count ++ (space ∷ []) ++ (kindLetter e ∷ space ∷ []) ++ valueFields a ++ driveFields a ≡ eventLine count e a
-unfolding eventLine valueFields driveFields
-line-parts count e a = simp append-assoc
+pub line-parts : (count : ℕ) (e : Event) (t : List ℤ) (o : Outcome) →
+    number count ++ (space ∷ []) ++ (kindLetter e ∷ space ∷ []) ++ valueFields (o .live) ++ driveFields t o ≡ eventLine count e (answerBy t o)
+unfolding eventLine valueFields driveFields answerOf
+line-parts count e t o = simp append-assoc

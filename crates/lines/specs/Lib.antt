@@ -3,4 +3,3 @@ pub mod Put
 pub mod PutLaws
 pub mod Fields
 pub mod LineLaws
-pub mod CodeLaws

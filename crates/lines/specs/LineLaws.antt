@@ -6,6 +6,7 @@ use lib.IntN.{ℤ, pos}
 use lib.ListN.{length, length-append}
 use Rattle.analog.specs.declared.Drive.{Drive}
 use Rattle.analog.specs.declared.Drive.the-variants.{Off, Volts, Milliamps}
+use Rattle.commands.specs.declared.state.Live.{Live}
 use Rattle.decimal.specs.Decimal.{textOf}
 use Rattle.decimal.specs.DecimalLaws.{text-at-most-19}
 use Rattle.events.specs.declared.Event.{Event}
@@ -35,9 +36,11 @@ analog-field-at-most-20 d code = rw length-append (omega (arith, analog-at-most-
 pub fields-at-most-40 : (y z : ℤ) (b : ℕ) → length (textOf y ++ (b ∷ []) ++ (textOf z ++ (b ∷ []))) ≤ 40
 fields-at-most-40 y z b = simp length-append (omega (arith, text-at-most-19 y, text-at-most-19 z))
 
-pub values-at-most-60 : (a : Answer) → length (valueFields a) ≤ 60
+pub values-at-most-60 : (l : Live) → length (valueFields l) ≤ 60
 unfolding valueFields
-values-at-most-60 a = simp length-append (omega (arith, text-at-most-19 (a .result), text-at-most-19 (a .shown), text-at-most-19 (pos (errorNumber (a .error)))))
+values-at-most-60 l =
+    simp length-append
+    (omega (arith, text-at-most-19 (l .reading .result), text-at-most-19 (l .shown), text-at-most-19 (pos (errorNumber (l .reading .error)))))
 
 pub event-line-at-most : (count : ℕ) (e : Event) (a : Answer) → length (eventLine count e a) ≤ longest
 unfolding eventLine

@@ -7,13 +7,11 @@ use lib.IntN.{ℤ, pos}
 use lib.ListN.{getD}
 use Rattle.analog.specs.declared.Drive.{Drive}
 use Rattle.analog.specs.declared.Drive.the-variants.{Off, Volts, Milliamps}
-use Rattle.analog.specs.AnalogCode.{codeOf}
 use Rattle.decimal.specs.Decimal.{textOf}
 use Rattle.events.specs.declared.Event.{Event}
 use Rattle.events.specs.declared.Event.the-variants.{Telegram, Levels, Tick}
 use Rattle.measurement.specs.Measure.{errorNumber}
 use Rattle.panel.specs.declared.Answer.{Answer}
-use Rattle.parameters.specs.Slots.{analogFormat, analogStart, analogEnd}
 
 -- ---- a line of fields
 
@@ -96,9 +94,9 @@ analogText Off code = offWord
 analogText (Volts x) code = textOf code
 analogText (Milliamps x) code = textOf code
 
--- the code of an answer's result in the format and between the ends of its table
-unfoldable pub codeIn : Answer → ℤ
-codeIn a = codeOf (analogFormat (a .state .table)) (analogStart (a .state .table)) (analogEnd (a .state .table)) (a .result)
+-- the code that an answer's drive is made of
+abbrev pub codeIn : Answer → ℤ
+codeIn a = a .state .live .reading .code
 
 -- event kind result shown error outs analog note
 unfoldable pub eventLine : ℕ → Event → Answer → List ℕ

@@ -1,16 +1,17 @@
 // The lines that panelrun prints, each put into a buffer that the caller lends, at a place, with the place behind it as the answer.
-// Uses `decimal` for numbers, `panel` and `events` for what a line tells, `analog` and `parameters` for the analog code.
+// Uses `decimal` for numbers, and `panel`, `commands` and `events` for what a line tells.
 use analog::Drive;
+use commands::state::Live;
+use commands::state::Outcome;
 use events::Event;
-use panel::Answer;
-use parameters::slots;
 ghost use mathlib.Core.Path.{_≡_};
 ghost use mathlib.Core.List.{_∷_, [], _++_};
 ghost use Prim.Native.Nat.{_+_, _≤_};
 ghost use lib.ListN.{length};
 ghost use Rattle.integers.specs.Int.{Within};
 ghost use Rattle.decimal.specs.Decimal.{largest, textOf};
-ghost use Rattle.lines.specs.Lines.{space, number, kindLetter, levelDigit, outsText, analogText, codeIn, headerLine, eventLine, loadLine, endLine};
+ghost use Rattle.panel.specs.Step.{answerBy};
+ghost use Rattle.lines.specs.Lines.{space, number, kindLetter, levelDigit, outsText, analogText, headerLine, eventLine, loadLine, endLine};
 ghost use Rattle.lines.specs.LineLaws.{longest};
 ghost use Rattle.lines.specs.Fields.{valueFields, driveFields};
 ghost use Rattle.lines.specs.Put.{Put};
@@ -34,19 +35,6 @@ fn level_digit(high: bool) -> u8
         return b'1';
     }
     b'0'
-}
-
-// The analog code of an answer.
-fn analog_code(a: Answer) -> i32
-    ensures { λ r. ⌜ r ≡ codeIn a ⌝ }
-{
-    let s = a.state;
-    analog::code(
-        parameters::number(&s.table, slots::ANALOG_FORMAT),
-        parameters::word(&s.table, slots::ANALOG_START),
-        parameters::word(&s.table, slots::ANALOG_END),
-        a.result,
-    )
 }
 
 // Puts bytes.
@@ -125,28 +113,30 @@ fn put_analog(out: &mut [u8], at: usize, drive: Drive, code: i32) -> usize
     }
 }
 
-// Puts the result, the shown value and the error of an answer, each with a space.
-fn put_values(out: &mut [u8], at: usize, a: Answer) -> usize
+// Puts the result, the shown value and the error, each with a space.
+fn put_values(out: &mut [u8], at: usize, l: Live) -> usize
     requires { ⌜ at + 60 ≤ length (now out) ⌝ }
-    ensures { λ r. ⌜ Put (now (out .entry)) at (valueFields a) r (now (out .exit)) ⌝ }
+    ensures { λ r. ⌜ Put (now (out .entry)) at (valueFields l) r (now (out .exit)) ⌝ }
 {
-    let error = a.error;
-    let p1 = put_word(out, at, a.result, b' ');
-    let p2 = put_word(out, p1, a.shown, b' ');
+    let reading = l.reading;
+    let error = reading.error;
+    let p1 = put_word(out, at, reading.result, b' ');
+    let p2 = put_word(out, p1, l.shown, b' ');
     put_natural(out, p2, measurement::error_number(error) as u64, b' ')
 }
 
-// Puts the outputs, the analog code and the note of an answer, and ends the line.
-fn put_drives(out: &mut [u8], at: usize, a: Answer) -> usize
+// Puts the outputs, the analog code and the note, and ends the line.
+fn put_drives(out: &mut [u8], at: usize, t: &[i32; 104], o: Outcome) -> usize
     requires { ⌜ at + 46 ≤ length (now out) ⌝ }
-    ensures { λ r. ⌜ Put (now (out .entry)) at (driveFields a) r (now (out .exit)) ⌝ }
+    ensures { λ r. ⌜ Put (now (out .entry)) at (driveFields (now (t .entry)) o) r (now (out .exit)) ⌝ }
 {
-    let outs = a.outputs;
-    let drive = a.drive;
-    let code = analog_code(a);
-    let p1 = put_outs(out, at, outs);
-    let p2 = put_analog(out, p1, drive, code);
-    put_natural(out, p2, a.note as u64, b'\n')
+    let l = o.live;
+    let switches = l.switches;
+    let reading = l.reading;
+    let drive = reading.drive;
+    let p1 = put_outs(out, at, panel::outputs(t, switches));
+    let p2 = put_analog(out, p1, drive, reading.code);
+    put_natural(out, p2, o.note as u64, b'\n')
 }
 
 // Puts the first line, which names the fields.
@@ -157,15 +147,23 @@ pub fn header_line(out: &mut [u8], at: usize) -> usize
     put_bytes(out, at, b"event kind result shown error outs analog note\n")
 }
 
-// Puts the line of an event, with its count and its answer.
-pub fn event_line(out: &mut [u8], at: usize, count: u64, e: Event, a: Answer) -> usize
+// Puts the line of an event, with its count and what it leaves: the table and the outcome beside it.
+pub fn event_line(
+    out: &mut [u8],
+    at: usize,
+    count: u64,
+    e: Event,
+    t: &[i32; 104],
+    o: Outcome,
+) -> usize
     requires { ⌜ (at + longest ≤ length (now out)) × (count ≤ largest) ⌝ }
-    ensures { λ r. ⌜ Put (now (out .entry)) at (eventLine count e a) r (now (out .exit)) ⌝ }
+    ensures { λ r. ⌜ Put (now (out .entry)) at (eventLine count e (answerBy (now (t .entry)) o)) r (now (out .exit)) ⌝ }
 {
     let p1 = put_natural(out, at, count, b' ');
     let p2 = put_kind(out, p1, e);
-    let p3 = put_values(out, p2, a);
-    put_drives(out, p3, a)
+    let l = o.live;
+    let p3 = put_values(out, p2, l);
+    put_drives(out, p3, t, o)
 }
 
 // Puts the line of a refused table.

@@ -15,7 +15,7 @@ use Rattle.parameters.specs.LoadLaws.{load-length, number-only, answer-slot}
 use Rattle.parameters.specs.Rows.{lowestOut, defaultTable}
 use Rattle.panel.specs.declared.Loaded.{Loaded}
 use Rattle.panel.specs.Load.{loadedOf}
-use Rattle.panel.specs.State.{freshOf}
+use Rattle.commands.specs.State.{freshOf}
 use Rattle.logrun.specs.Input.{signedOf, tableBytes, tableOf}
 
 -- four bytes a word

@@ -4,15 +4,18 @@ use mathlib.Core.Bool.{cond}
 use mathlib.Core.List.{List, [], _∷_, _++_}
 use Prim.Native.Nat.{ℕ, _+_, _≤_}
 use lib.Dec.{eqb, ltb}
+use lib.IntN.{ℤ}
+use Rattle.commands.specs.declared.state.State.{State}
+use Rattle.commands.specs.State.{stateOf}
+use Rattle.commands.specs.Valid.{Good}
 use Rattle.decimal.specs.Decimal.{largest}
 use Rattle.events.specs.declared.Pending.{Pending}
 use Rattle.events.specs.declared.Taken.{Taken}
 use Rattle.events.specs.declared.Taken.the-variants.{Happened, Nothing, Refused}
 use Rattle.events.specs.Log.{freshPending, wordOf, endOf}
 use Rattle.lines.specs.Lines.{eventLine}
-use Rattle.panel.specs.declared.state.State.{State}
 use Rattle.panel.specs.Step.{stepOf}
-use Rattle.panel.specs.Valid.{Good}
+use Rattle.logrun.specs.declared.Course.{Course}
 use Rattle.logrun.specs.declared.Progress.{Progress}
 
 -- "Events are counted from 1, refused ones too": the count after one more event. It stays at the largest number that is printed,
@@ -23,6 +26,13 @@ counted n = cond (ltb n largest) (n + 1) largest
 -- before the first word
 abbrev pub startOf : State → Progress
 startOf s = record { state = s; pending = freshPending; count = 0; refusal = 0 }
+
+-- a run's progress of its table and its course beside it, and its course
+abbrev pub progressOf : List ℤ → Course → Progress
+progressOf t c = record { state = stateOf t (c .live); pending = c .pending; count = c .count; refusal = c .refusal }
+
+abbrev pub courseOf : Progress → Course
+courseOf p = record { live = p .state .live; pending = p .pending; count = p .count; refusal = p .refusal }
 
 -- what a word gives takes the run further: an event steps the panel, an upper half is kept, a refusal ends the run
 unfoldable pub afterTaken : Progress → Pending → Taken → Progress

@@ -1,10 +1,11 @@
 // A log run to its lines, a word or a piece at a time: the table from its bytes, the events stepped, their lines put into a lent buffer.
-// Uses `events` for the log's words, `panel` for the steps and `lines` for what is printed.
+// Uses `events` for the log's words, `panel` for the steps on the state of `commands`, and `lines` for what is printed.
+use commands::state::Live;
+use commands::state::State;
 use events::Event;
 use events::Pending;
 use events::Taken;
 use panel::Loaded;
-use panel::state::State;
 ghost use mathlib.Core.Path.{_≡_};
 ghost use Prim.Native.Nat.{_+_, _*_, _≤_};
 ghost use lib.Dec.{eqb};
@@ -15,10 +16,10 @@ ghost use Rattle.lines.specs.Lines.{endLine};
 ghost use Rattle.lines.specs.LineLaws.{longest};
 ghost use Rattle.lines.specs.Put.{Put};
 ghost use Rattle.panel.specs.Load.{loadedOf};
-ghost use Rattle.panel.specs.Valid.{Good};
+ghost use Rattle.commands.specs.Valid.{Good};
 ghost use Rattle.logrun.specs.Input.{signedOf, tableBytes, tableOf};
 ghost use Rattle.logrun.specs.Output.{openingText};
-ghost use Rattle.logrun.specs.Progress.{counted, startOf, afterTaken, textTaken, wordFed, wordText, wordsFed, wordsText, finishedOf, Ready};
+ghost use Rattle.logrun.specs.Progress.{counted, startOf, courseOf, progressOf, afterTaken, textTaken, wordFed, wordText, wordsFed, wordsText, finishedOf, Ready};
 
 // The bytes of a table.
 pub const TABLE_BYTES: usize = 416;
@@ -33,6 +34,26 @@ pub struct Progress {
     pub count: u64,
     // The refusal that ended the log, 0 while it runs.
     pub refusal: u8,
+}
+
+// How far a run has come, beside the table.
+struct Course {
+    // The live values of the panel.
+    live: Live,
+    // The upper half that may be waiting.
+    pending: Pending,
+    // How many events there were.
+    count: u64,
+    // The refusal that ended the log, 0 while it runs.
+    refusal: u8,
+}
+
+// What words of the log give.
+struct Ran {
+    // The course after them.
+    course: Course,
+    // Where the lines end in the buffer.
+    end: usize,
 }
 
 // What feeding the log gives.
@@ -142,20 +163,56 @@ fn next_count(n: u64) -> u64
     999_999_999_999_999_999
 }
 
-// An event: the panel steps, and the line is put.
-fn event(p: Progress, pending: Pending, e: Event, out: &mut [u8], at: usize) -> Fed
-    requires { ⌜ Ready p × (at + longest ≤ length (now out)) ⌝ }
-    ensures is { λ r. ⌜ r .progress ≡ afterTaken p pending (Happened e) ⌝ }
-    ensures text { λ r. ⌜ Put (now (out .entry)) at (textTaken p (Happened e)) (r .end) (now (out .exit)) ⌝ }
+// A run's course, of its progress.
+fn course_of(p: Progress) -> Course
+    ensures { λ r. ⌜ r ≡ courseOf p ⌝ }
 {
-    let count = next_count(p.count);
     let s = p.state;
-    let a = panel::step(s, e);
-    let end = lines::event_line(out, at, count, e, a);
-    let next = a.state;
-    Fed {
-        progress: Progress {
-            state: next,
+    let live = s.live;
+    let pending = p.pending;
+    Course {
+        live,
+        pending,
+        count: p.count,
+        refusal: p.refusal,
+    }
+}
+
+// A run's progress, of its table and its course.
+fn progress_of(table: [i32; 104], c: Course) -> Progress
+    ensures { λ r. ⌜ r ≡ progressOf table c ⌝ }
+{
+    let live = c.live;
+    let pending = c.pending;
+    Progress {
+        state: State { table, live },
+        pending,
+        count: c.count,
+        refusal: c.refusal,
+    }
+}
+
+// An event: the panel steps, and the line is put.
+fn event(
+    t: &mut [i32; 104],
+    c: Course,
+    pending: Pending,
+    e: Event,
+    out: &mut [u8],
+    at: usize,
+) -> Ran
+    requires { ⌜ Ready (progressOf (now t) c) × (at + longest ≤ length (now out)) ⌝ }
+    ensures is { λ r. ⌜ progressOf (now (t .exit)) (r .course) ≡ afterTaken (progressOf (now (t .entry)) c) pending (Happened e) ⌝ }
+    ensures text { λ r. ⌜ Put (now (out .entry)) at (textTaken (progressOf (now (t .entry)) c) (Happened e)) (r .end) (now (out .exit)) ⌝ }
+{
+    let count = next_count(c.count);
+    let l = c.live;
+    let o = panel::advance(t, l, e);
+    let live = o.live;
+    let end = lines::event_line(out, at, count, e, t, o);
+    Ran {
+        course: Course {
+            live,
             pending,
             count,
             refusal: 0,
@@ -165,15 +222,15 @@ fn event(p: Progress, pending: Pending, e: Event, out: &mut [u8], at: usize) -> 
 }
 
 // A word that has no line: an upper half with refusal 0, or a word that is refused.
-fn quiet(p: Progress, pending: Pending, refusal: u8, at: usize) -> Fed
-    ensures { λ r. ⌜ r ≡ record { progress = record { state = p .state; pending = pending; count = p .count; refusal = refusal }; end = at } ⌝ }
+fn quiet(c: Course, pending: Pending, refusal: u8, at: usize) -> Ran
+    ensures { λ r. ⌜ r ≡ record { course = record { live = c .live; pending = pending; count = c .count; refusal = refusal }; end = at } ⌝ }
 {
-    let s = p.state;
-    Fed {
-        progress: Progress {
-            state: s,
+    let live = c.live;
+    Ran {
+        course: Course {
+            live,
             pending,
-            count: p.count,
+            count: c.count,
             refusal,
         },
         end: at,
@@ -181,30 +238,48 @@ fn quiet(p: Progress, pending: Pending, refusal: u8, at: usize) -> Fed
 }
 
 // One word of the log, its line put at `at`.
-pub fn word(p: Progress, w: u32, out: &mut [u8], at: usize) -> Fed
-    requires { ⌜ Ready p × (at + longest ≤ length (now out)) ⌝ }
-    ensures is { λ r. ⌜ r .progress ≡ wordFed p w ⌝ }
-    ensures text { λ r. ⌜ Put (now (out .entry)) at (wordText p w) (r .end) (now (out .exit)) ⌝ }
-    ensures ready { λ r. ⌜ Ready (r .progress) ⌝ }
+fn word(t: &mut [i32; 104], c: Course, w: u32, out: &mut [u8], at: usize) -> Ran
+    requires { ⌜ Ready (progressOf (now t) c) × (at + longest ≤ length (now out)) ⌝ }
+    ensures is { λ r. ⌜ progressOf (now (t .exit)) (r .course) ≡ wordFed (progressOf (now (t .entry)) c) w ⌝ }
+    ensures text { λ r. ⌜ Put (now (out .entry)) at (wordText (progressOf (now (t .entry)) c) w) (r .end) (now (out .exit)) ⌝ }
+    ensures ready { λ r. ⌜ Ready (progressOf (now (t .exit)) (r .course)) ⌝ }
 {
-    if p.refusal != 0 {
-        return Fed {
-            progress: p,
-            end: at,
-        };
+    if c.refusal != 0 {
+        return Ran { course: c, end: at };
     }
-    let pending = p.pending;
+    let pending = c.pending;
     let s = events::word(pending, w);
     let kept = s.pending;
     let taken = s.taken;
     match taken {
-        Taken::Happened(e) => event(p, kept, e, out, at),
-        Taken::Nothing => quiet(p, kept, 0, at),
-        Taken::Refused(n) => quiet(p, kept, n, at),
+        Taken::Happened(e) => event(t, c, kept, e, out, at),
+        Taken::Nothing => quiet(c, kept, 0, at),
+        Taken::Refused(n) => quiet(c, kept, n, at),
     }
 }
 
 // The whole words of a piece of the log, their lines put at the start of the buffer.
+fn words(t: &mut [i32; 104], c: Course, bytes: &[u8], out: &mut [u8]) -> Ran
+    requires { ⌜ Ready (progressOf (now t) c) × (32 * length (now bytes) ≤ length (now out)) ⌝ }
+    ensures is { λ r. ⌜ progressOf (now (t .exit)) (r .course) ≡ wordsFed (progressOf (now (t .entry)) c) (wordsIn (now (bytes .entry))) ⌝ }
+    ensures text { λ r. ⌜ Put (now (out .entry)) 0 (wordsText (progressOf (now (t .entry)) c) (wordsIn (now (bytes .entry)))) (r .end) (now (out .exit)) ⌝ }
+    ensures ready { λ r. ⌜ Ready (progressOf (now (t .exit)) (r .course)) ⌝ }
+    ensures within { λ r. ⌜ r .end ≤ length (now (out .exit)) ⌝ }
+{
+    let mut course = c;
+    let mut end: usize = 0;
+    let mut i: usize = 0;
+    while i + 4 <= bytes.len() {
+        let w = events::word_at(bytes[i], bytes[i + 1], bytes[i + 2], bytes[i + 3]);
+        let r = word(t, course, w, out, end);
+        course = r.course;
+        end = r.end;
+        i += 4;
+    }
+    Ran { course, end }
+}
+
+// The whole words of a piece of the log, from the run so far.
 pub fn feed(p: Progress, bytes: &[u8], out: &mut [u8]) -> Fed
     requires { ⌜ Ready p × (32 * length (now bytes) ≤ length (now out)) ⌝ }
     ensures is { λ r. ⌜ r .progress ≡ wordsFed p (wordsIn (now (bytes .entry))) ⌝ }
@@ -212,19 +287,14 @@ pub fn feed(p: Progress, bytes: &[u8], out: &mut [u8]) -> Fed
     ensures ready { λ r. ⌜ Ready (r .progress) ⌝ }
     ensures within { λ r. ⌜ r .end ≤ length (now (out .exit)) ⌝ }
 {
-    let mut q = p;
-    let mut end: usize = 0;
-    let mut i: usize = 0;
-    while i + 4 <= bytes.len() {
-        let w = events::word_at(bytes[i], bytes[i + 1], bytes[i + 2], bytes[i + 3]);
-        let f = word(q, w, out, end);
-        q = f.progress;
-        end = f.end;
-        i += 4;
-    }
+    let s = p.state;
+    let mut table = s.table;
+    let r = words(&mut table, course_of(p), bytes, out);
+    let c = r.course;
+    let end = r.end;
     Fed {
-        progress: q,
-        end: end,
+        progress: progress_of(table, c),
+        end,
     }
 }
 

@@ -5,6 +5,10 @@ use mathlib.Core.List.{List}
 use Prim.Native.Nat.{ℕ}
 use lib.Dec.{eqb, leb}
 use lib.IntN.{ℤ}
+use Rattle.commands.specs.declared.state.Outcome.{Outcome}
+use Rattle.commands.specs.declared.state.State.{State}
+use Rattle.commands.specs.Commands.{rereadOf, highAt, commandsOf}
+use Rattle.commands.specs.State.{stateOf, withLevels, withTelegram, withShown, withSwitches}
 use Rattle.events.specs.declared.Event.{Event}
 use Rattle.events.specs.declared.Event.the-variants.{Telegram, Levels, Tick}
 use Rattle.parameters.specs.Slots.{action, config}
@@ -13,25 +17,31 @@ use Rattle.settings.specs.Settings.{preselectionsOf}
 use Rattle.switching.specs.declared.Switch.{Switch}
 use Rattle.switching.specs.Outputs.{outputsOf}
 use Rattle.switching.specs.Switching.{allSwitched, allTicked}
-use Rattle.panel.specs.declared.state.State.{State}
 use Rattle.panel.specs.declared.Answer.{Answer}
-use Rattle.panel.specs.State.{withLevels, withTelegram, withShown, withSwitches}
-use Rattle.panel.specs.Commands.{rereadOf, highAt, commandsOf}
+use Rattle.panel.specs.declared.Begun.{Begun}
 
 -- ---- the answer
+
+-- the levels of the outputs that a table and its switches give
+abbrev pub outputsIn : List ℤ → List Switch → List Bool
+outputsIn t ss = outputsOf (preselectionsOf t) ss
 
 -- "carries the new state, the result, the shown value, error, output levels, drive and a note"
 unfoldable pub answerOf : State → ℕ → Answer
 answerOf s note =
     record {
       state = s;
-      result = s .reading .result;
-      shown = s .shown;
-      error = s .reading .error;
-      outputs = outputsOf (preselectionsOf (s .table)) (s .switches);
-      drive = s .reading .drive;
+      result = s .live .reading .result;
+      shown = s .live .shown;
+      error = s .live .reading .error;
+      outputs = outputsIn (s .table) (s .live .switches);
+      drive = s .live .reading .drive;
       note = note;
     }
+
+-- the answer that a table and the outcome beside it give
+abbrev pub answerBy : List ℤ → Outcome → Answer
+answerBy t o = answerOf (stateOf t (o .live)) (o .note)
 
 -- ---- after the commands
 
@@ -40,7 +50,7 @@ unfoldable pub switchesAfter : Bool → List ℤ → ℤ → List Switch → Lis
 switchesAfter seen t r ss = cond seen (allSwitched (preselectionsOf t) r ss) ss
 
 unfoldable pub switchedOf : State → State
-switchedOf s = withSwitches s (switchesAfter (s .seen) (s .table) (s .reading .result) (s .switches))
+switchedOf s = withSwitches s (switchesAfter (s .live .seen) (s .table) (s .live .reading .result) (s .live .switches))
 
 -- "Freeze lasts while, after the event, any input set to it is low (config 0) or high (config 1)"
 unfoldable pub freezes : List ℤ → ℕ → ℕ → Bool
@@ -54,7 +64,7 @@ unfoldable pub shownAfter : List ℤ → ℕ → ℤ → ℤ → ℤ
 shownAfter t l shown result = cond (frozen t l) shown result
 
 unfoldable pub displayedOf : State → State
-displayedOf s = withShown s (shownAfter (s .table) (s .levels) (s .shown) (s .reading .result))
+displayedOf s = withShown s (shownAfter (s .table) (s .live .levels) (s .live .shown) (s .live .reading .result))
 
 abbrev pub settledOf : State → State
 settledOf s = displayedOf (switchedOf s)
@@ -71,9 +81,13 @@ levelsOf s l = cond (leb l 7) (answerOf (settledOf (withLevels (commandsOf s l .
 
 -- "Ticks change pulses", and through them signals and outputs
 unfoldable pub tickOf : State → ℕ → Answer
-tickOf s ms = answerOf (withSwitches s (allTicked ms (s .switches))) 0
+tickOf s ms = answerOf (withSwitches s (allTicked ms (s .live .switches))) 0
 
 unfoldable pub stepOf : State → Event → Answer
 stepOf s (Telegram w) = telegramOf s w
 stepOf s (Levels l) = levelsOf s l
 stepOf s (Tick ms) = tickOf s ms
+
+-- the answer that an event comes to, from what it does before switching and display
+abbrev pub endOf : List ℤ → Begun → Answer
+endOf t b = cond (b .settles) (answerOf (settledOf (stateOf t (b .live))) (b .note)) (answerOf (stateOf t (b .live)) (b .note))

@@ -1,91 +1,28 @@
--- Every state that a panel reaches is good: its table is valid, and its result is from −Z to Z.
--- A reset stores a position up to Z, a teach stores the result, and nothing else writes the table. Paper 01, "Events and inputs".
--- First the cases of a command, an input and an event, as laws for any claim about the state they leave.
-use mathlib.Core.Path.{_≡_}
-use mathlib.Core.Bool.{Bool, true, false, cond, not, _&&_, _||_}
-use mathlib.Core.List.{List}
-use Prim.Native.Nat.{ℕ, _-_, _≤_, _<_}
-use native.Mathlib.Omega.{arith}
-use borrow.Author.Tests.{eq-eqb, eqb-true, leb-true, ltb-false}
-use lib.Dec.{T, eqb, leb, ltb}
-use lib.IntN.{ℤ, pos}
+-- Every state that a panel reaches is good: its table is valid, and its result is from −Z to Z. Paper 01, "Events and inputs".
+-- First the cases of an event, as a law for any claim about the state it leaves.
+use mathlib.Core.Bool.{Bool, true, false, cond, not}
+use Prim.Native.Nat.{ℕ}
+use lib.Dec.{T, leb}
+use Rattle.commands.specs.declared.state.State.{State}
+use Rattle.commands.specs.CommandLaws.{good-reread, good-commands}
+use Rattle.commands.specs.Commands.{rereadOf, commandsOf}
+use Rattle.commands.specs.State.{withLevels, withTelegram, withSwitches}
+use Rattle.commands.specs.Valid.{Good}
 use Rattle.events.specs.declared.Event.{Event}
 use Rattle.events.specs.declared.Event.the-variants.{Telegram, Levels, Tick}
-use Rattle.integers.specs.Choice.{by-test, is-true, is-false}
-use Rattle.integers.specs.Limit.{Z}
-use Rattle.parameters.specs.Slots.{action, withOffset}
-use Rattle.parameters.specs.Stores.{valid-offset, valid-preselection}
-use Rattle.parameters.specs.Valid.{Valid}
-use Rattle.reading.specs.Reading.{acceptsOf, placeOf}
-use Rattle.reading.specs.ReadingLaws.{result-within}
-use Rattle.switching.specs.Switching.{allTicked}
+use Rattle.integers.specs.Choice.{by-test}
+use Rattle.reading.specs.Reading.{acceptsOf}
 use Rattle.settings.specs.Settings.{preselectionsOf}
-use Rattle.switching.specs.Switching.{allSwitched}
+use Rattle.switching.specs.Switching.{allSwitched, allTicked}
 use Rattle.panel.specs.declared.Answer.{Answer}
-use Rattle.panel.specs.declared.commands.Acted.{Acted}
-use Rattle.panel.specs.declared.state.State.{State}
-use Rattle.panel.specs.State.{freshOf, withTable, withLevels, withTelegram, withSwitches}
-use Rattle.panel.specs.Commands.{errorOf, rereadOf, acted, resetRefusal, resetOf, clearLocksOf, clearExtremesOf, isTeach, teachOf, refusalOf, carriedOut, commandOf, edgeAt, inputOf, commandsOf}
-use Rattle.panel.specs.Valid.{Good}
 use Rattle.panel.specs.Step.{answerOf, switchesAfter, switchedOf, displayedOf, settledOf, telegramOf, levelsOf, tickOf, stepOf}
-
--- ---- the cases
-
--- a reset that is not refused has a position up to Z
-pub reset-fits : (seen : Bool) (error place : ℕ) → resetRefusal seen error place ≡ 0 → place ≤ Z
-unfolding resetRefusal
-reset-fits seen error place =
-    by-test (not seen || eqb error 3) 13 _ Q (λ _ e. absurd (omega arith))
-    (λ _. by-test (ltb Z place) 12 0 Q (λ _ e. absurd (omega arith)) (λ n _. ltb-false Z place (is-false (ltb Z place) n)))
-  where
-    Q : ℕ → Type 0
-    Q n = n ≡ 0 → place ≤ Z
-
-both : (a b : Bool) → T (a && b) → T a × T b
-both true b t = (tt, t)
-both false b t = absurd t
-
-pub teach-below : (a : ℕ) → T (isTeach a) → a - 5 < 4
-teach-below a t =
-    let b = both (leb 5 a) (leb a 8) t in
-    omega (arith, leb-true 5 a (is-true (leb 5 a) (b .0)), leb-true a 8 (is-true (leb a 8) (b .1)))
-
--- a command leaves the state, or resets, clears, or teaches
-pub by-command : (a : ℕ) (s : State) (Q : State → Type 0) →
-    Q s →
-    (T (eqb a 1) → placeOf (s .table) (s .telegram) ≤ Z → Q (resetOf s)) →
-    Q (clearLocksOf s) →
-    Q (clearExtremesOf s) →
-    ((k : ℕ) → k < 4 → T (isTeach a) → T (eqb (refusalOf a s) 0) → Q (teachOf s k)) →
-    Q (commandOf a s .state)
-unfolding commandOf carriedOut refusalOf
-by-command a s Q same reset locks extremes teach =
-    by-test (eqb (refusalOf a s) 0) (acted (carriedOut a s) 0) (acted s (refusalOf a s)) (λ (x : Acted). Q (x .state))
-    (λ e. by-test (eqb a 1) (resetOf s) _ Q (λ t. reset t (place-fits e t))
-    (λ _. by-test (eqb a 3) (clearLocksOf s) _ Q (λ _. locks)
-    (λ _. by-test (eqb a 4) (clearExtremesOf s) _ Q (λ _. extremes)
-    (λ _. by-test (isTeach a) (teachOf s (a - 5)) s Q (λ t. teach (a - 5) (teach-below a t) t e) (λ _. same)))))
-    (λ _. same)
-  where
-    place-fits : T (eqb (refusalOf a s) 0) → T (eqb a 1) → placeOf (s .table) (s .telegram) ≤ Z
-    place-fits e t =
-        reset-fits (s .seen) (errorOf s) (placeOf (s .table) (s .telegram))
-        (rw (is-true (eqb a 1) t) at (eqb-true (refusalOf a s) 0 (is-true (eqb (refusalOf a s) 0) e)))
-
--- an input acts or does not
-pub by-input : (l i : ℕ) (x : Acted) (Q : State → Type 0) →
-    (T (edgeAt (x .state) l i) → Q (commandOf (action (x .state .table) i) (x .state) .state)) →
-    Q (x .state) →
-    Q (inputOf l i x .state)
-unfolding inputOf
-by-input l i x Q acts rests = by-test (edgeAt (x .state) l i) _ x (λ (y : Acted). Q (y .state)) acts (λ _. rests)
 
 -- an event is refused, or is a telegram, levels or a tick
 pub by-step : (s : State) (e : Event) (Q : State → Type 0) →
     Q s →
     ((w : ℕ) → Q (settledOf (rereadOf (withTelegram s w)))) →
     ((l : ℕ) → Q (settledOf (withLevels (commandsOf s l .state) l))) →
-    ((ms : ℕ) → Q (withSwitches s (allTicked ms (s .switches)))) →
+    ((ms : ℕ) → Q (withSwitches s (allTicked ms (s .live .switches)))) →
     Q (stepOf s e .state)
 unfolding stepOf telegramOf levelsOf tickOf answerOf
 by-step s (Telegram w) Q same telegram levels tick = by-test (acceptsOf (s .table) w) _ _ (λ (a : Answer). Q (a .state)) (λ _. telegram w) (λ _. same)
@@ -94,39 +31,14 @@ by-step s (Tick ms) Q same telegram levels tick = tick ms
 
 -- ---- good states
 
-pub good-fresh : {t : List ℤ} → Valid t → Good (freshOf t)
-unfolding freshOf
-good-fresh v = record { table = v; result = record { above = omega arith; below = omega arith } }
-
--- the result worked out again asks nothing of the one before
-pub good-reread : (s : State) → Valid (s .table) → Good (rereadOf s)
-unfolding rereadOf
-good-reread s v = record { table = v; result = result-within (s .table) (s .telegram) }
-
-pub good-command : (a : ℕ) (s : State) → Good s → Good (commandOf a s .state)
-unfolding resetOf clearLocksOf clearExtremesOf teachOf
-good-command a s g =
-    by-command a s Good g
-    (λ _ h. good-reread (withTable s (withOffset (s .table) (pos (placeOf (s .table) (s .telegram))))) (valid-offset (g .table) (record { above = h; below = omega arith })))
-    (record { table = g .table; result = g .result })
-    (record { table = g .table; result = g .result })
-    (λ k h _ _. record { table = valid-preselection (g .table) (g .result) k h; result = g .result })
-
-pub good-input : (l i : ℕ) (x : Acted) → Good (x .state) → Good (inputOf l i x .state)
-good-input l i x g = by-input l i x Good (λ _. good-command (action (x .state .table) i) (x .state) g) g
-
-pub good-commands : (s : State) (l : ℕ) → Good s → Good (commandsOf s l .state)
-unfolding commandsOf
-good-commands s l g = good-input l 2 (inputOf l 1 (inputOf l 0 (acted s 0))) (good-input l 1 (inputOf l 0 (acted s 0)) (good-input l 0 (acted s 0) g))
-
 -- switching, before and after the first telegram
 pub by-switched : (s : State) (Q : State → Type 0) →
-    (T (s .seen) → Q (withSwitches s (allSwitched (preselectionsOf (s .table)) (s .reading .result) (s .switches)))) → (T (not (s .seen)) → Q s) → Q (switchedOf s)
+    (T (s .live .seen) → Q (withSwitches s (allSwitched (preselectionsOf (s .table)) (s .live .reading .result) (s .live .switches)))) → (T (not (s .live .seen)) → Q s) → Q (switchedOf s)
 unfolding switchedOf switchesAfter
-by-switched s Q f g = go (s .seen) f g
+by-switched s Q f g = go (s .live .seen) f g
   where
-    go : (b : Bool) → (T b → Q (withSwitches s (allSwitched (preselectionsOf (s .table)) (s .reading .result) (s .switches)))) → (T (not b) → Q s) →
-        Q (withSwitches s (cond b (allSwitched (preselectionsOf (s .table)) (s .reading .result) (s .switches)) (s .switches)))
+    go : (b : Bool) → (T b → Q (withSwitches s (allSwitched (preselectionsOf (s .table)) (s .live .reading .result) (s .live .switches)))) → (T (not b) → Q s) →
+        Q (withSwitches s (cond b (allSwitched (preselectionsOf (s .table)) (s .live .reading .result) (s .live .switches)) (s .live .switches)))
     go true f g = f tt
     go false f g = g tt
 
@@ -144,12 +56,3 @@ good-step {s} g e =
     (λ w. good-settled (rereadOf (withTelegram s w)) (good-reread (withTelegram s w) (g .table)))
     (λ l. let h = good-commands s l g in good-settled (withLevels (commandsOf s l .state) l) (record { table = h .table; result = h .result }))
     (λ ms. record { table = g .table; result = g .result })
-
--- ---- what an action that is not refused may assume
-
-pub reset-allowed : (a : ℕ) (s : State) → a ≡ 1 → refusalOf a s ≡ 0 → placeOf (s .table) (s .telegram) ≤ Z
-unfolding refusalOf
-reset-allowed a s one e = reset-fits (s .seen) (errorOf s) (placeOf (s .table) (s .telegram)) (rw (eq-eqb a 1 one) at e)
-
-pub teach-from : (a : ℕ) → T (isTeach a) → 5 ≤ a
-teach-from a t = leb-true 5 a (is-true (leb 5 a) (both (leb 5 a) (leb a 8) t .0))

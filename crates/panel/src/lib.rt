@@ -1,20 +1,24 @@
-// The panel: its state, and the step that an event takes it through.
-// Uses `events`, `parameters`, `settings`, `reading` and `switching`, and the answer's enums of `measurement` and `analog`.
-pub mod commands; // commands.rt: the actions of the inputs
-pub mod state; // state.rt: the state, and its parts set anew
-
+// The panel: the step that an event takes its state through, and loading.
+// Uses `commands` for the state and the actions of the inputs, `events`, `parameters`, `settings`, `reading` and `switching`.
 use analog::Drive;
+use commands::state;
+use commands::state::Live;
+use commands::state::Outcome;
+use commands::state::State;
 use events::Event;
 use measurement::Error;
 use parameters::number;
 use parameters::slots;
-use state::State;
 use switching::Switch;
 ghost use mathlib.Core.Path.{_≡_};
 ghost use Prim.Native.Nat.{_<_};
+ghost use mathlib.Core.Bool.{false};
+ghost use Rattle.commands.specs.State.{stateOf, setSwitches};
+ghost use Rattle.commands.specs.Valid.{Good};
+ghost use Rattle.parameters.specs.Valid.{Valid};
+ghost use Rattle.switching.specs.Switching.{allTicked};
 ghost use Rattle.panel.specs.Load.{loadedOf};
-ghost use Rattle.panel.specs.Step.{answerOf, switchesAfter, freezes, frozen, shownAfter, telegramOf, levelsOf, tickOf, stepOf};
-ghost use Rattle.panel.specs.Valid.{Good};
+ghost use Rattle.panel.specs.Step.{answerOf, answerBy, outputsIn, switchesAfter, freezes, frozen, shownAfter, settledOf, telegramOf, levelsOf, stepOf, endOf};
 
 // The answer to an event.
 pub struct Answer {
@@ -32,21 +36,29 @@ pub struct Answer {
     pub note: u8,
 }
 
+// The levels of the outputs that a table and its switches give.
+pub fn outputs(t: &[i32; 104], switches: [Switch; 4]) -> [bool; 4]
+    ensures { λ r. ⌜ r ≡ outputsIn (now (t .entry)) switches ⌝ }
+{
+    switching::output::outputs(settings::preselections(t), switches)
+}
+
 // The answer that a state gives, with a note.
 pub fn answered(s: State, note: u8) -> Answer
     ensures { λ r. ⌜ r ≡ answerOf s note ⌝ }
 {
-    let switches = s.switches;
-    let outputs = switching::output::outputs(settings::preselections(&s.table), switches);
-    let reading = s.reading;
+    let l = s.live;
+    let switches = l.switches;
+    let levels = outputs(&s.table, switches);
+    let reading = l.reading;
     let error = reading.error;
     let drive = reading.drive;
     Answer {
         state: s,
         result: reading.result,
-        shown: s.shown,
+        shown: l.shown,
         error: error,
-        outputs: outputs,
+        outputs: levels,
         drive: drive,
         note: note,
     }
@@ -100,50 +112,113 @@ fn shown_after(t: &[i32; 104], levels: u8, shown: i32, result: i32) -> i32
     result
 }
 
+// What an event does before switching and display.
+struct Begun {
+    live: Live,
+    note: u8,
+    // Whether switching and display follow: not after a refusal or a tick.
+    settles: bool,
+}
+
 // A telegram: refused with 11, or read.
-pub fn on_telegram(s: State, telegram: u32) -> Answer
-    requires { ⌜ Good s ⌝ }
-    ensures { λ r. ⌜ r ≡ telegramOf s telegram ⌝ }
+fn on_telegram(t: &[i32; 104], l: Live, telegram: u32) -> Begun
+    requires { ⌜ Valid (now t) ⌝ }
+    ensures { λ r. ⌜ endOf (now (t .entry)) r ≡ telegramOf (stateOf (now (t .entry)) l) telegram ⌝ }
 {
-    if !reading::accepts(&s.table, telegram) {
-        return answered(s, 11);
+    if !reading::accepts(t, telegram) {
+        return Begun {
+            live: l,
+            note: 11,
+            settles: false,
+        };
     }
-    let read = reading::read(&s.table, telegram);
-    let extremes = commands::noted(s.extremes, read);
-    let was = s.switches;
-    let switches = switches_after(true, &s.table, read.result, was);
-    let held = s.shown;
-    let shown = shown_after(&s.table, s.levels, held, read.result);
-    answered(state::took(s, telegram, read, extremes, switches, shown), 0)
+    let read = reading::read(t, telegram);
+    let extremes = commands::noted(l.extremes, read);
+    let next = state::received(l, telegram, read, extremes);
+    Begun {
+        live: next,
+        note: 0,
+        settles: true,
+    }
 }
 
 // Levels: refused with 10, or their commands run.
-pub fn on_levels(s: State, levels: u8) -> Answer
-    requires { ⌜ Good s ⌝ }
-    ensures { λ r. ⌜ r ≡ levelsOf s levels ⌝ }
+fn on_levels(t: &mut [i32; 104], l: Live, levels: u8) -> Begun
+    requires { ⌜ Good (stateOf (now t) l) ⌝ }
+    ensures { λ r. ⌜ endOf (now (t .exit)) r ≡ levelsOf (stateOf (now (t .entry)) l) levels ⌝ }
 {
     if 7 < levels {
-        return answered(s, 10);
+        return Begun {
+            live: l,
+            note: 10,
+            settles: false,
+        };
     }
-    let x = commands::commands(s, levels);
-    let n = x.state;
-    let read = n.reading;
-    let was = n.switches;
-    let switches = switches_after(n.seen, &n.table, read.result, was);
-    let held = n.shown;
-    let shown = shown_after(&n.table, levels, held, read.result);
-    answered(state::settled(n, levels, switches, shown), x.note)
+    let x = commands::act(t, l, levels);
+    let n = x.live;
+    let next = state::with_levels(n, levels);
+    Begun {
+        live: next,
+        note: x.note,
+        settles: true,
+    }
 }
 
 // A tick: pulses are used up.
-pub fn on_tick(s: State, ms: u16) -> Answer
-    ensures { λ r. ⌜ r ≡ tickOf s ms ⌝ }
+fn on_tick(l: Live, ms: u16) -> Begun
+    ensures { λ r. ⌜ r ≡ record { live = setSwitches l (allTicked ms (l .switches)); note = 0; settles = false } ⌝ }
 {
-    let switches = s.switches;
-    answered(
-        state::with_switches(s, switching::tick_all(ms, switches)),
-        0,
-    )
+    let switches = l.switches;
+    let next = state::with_switches(l, switching::tick_all(ms, switches));
+    Begun {
+        live: next,
+        note: 0,
+        settles: false,
+    }
+}
+
+// An event before switching and display.
+fn begin(t: &mut [i32; 104], l: Live, e: Event) -> Begun
+    requires { ⌜ Good (stateOf (now t) l) ⌝ }
+    ensures { λ r. ⌜ endOf (now (t .exit)) r ≡ stepOf (stateOf (now (t .entry)) l) e ⌝ }
+{
+    match e {
+        Event::Telegram(w) => on_telegram(t, l, w),
+        Event::Levels(x) => on_levels(t, l, x),
+        Event::Tick(ms) => on_tick(l, ms),
+    }
+}
+
+// Switching and display, which end a telegram or levels event.
+fn settle(t: &[i32; 104], l: Live) -> Live
+    ensures { λ r. ⌜ stateOf (now (t .entry)) r ≡ settledOf (stateOf (now (t .entry)) l) ⌝ }
+{
+    let reading = l.reading;
+    let was = l.switches;
+    let switches = switches_after(l.seen, t, reading.result, was);
+    let shown = shown_after(t, l.levels, l.shown, reading.result);
+    state::settled(l, switches, shown)
+}
+
+// An event, with the table changed in place.
+pub fn advance(t: &mut [i32; 104], l: Live, e: Event) -> Outcome
+    requires { ⌜ Good (stateOf (now t) l) ⌝ }
+    ensures is { λ r. ⌜ answerBy (now (t .exit)) r ≡ stepOf (stateOf (now (t .entry)) l) e ⌝ }
+    ensures valid { λ r. ⌜ Good (stateOf (now (t .exit)) (r .live)) ⌝ }
+{
+    let b = begin(t, l, e);
+    let live = b.live;
+    if b.settles {
+        let last = settle(t, live);
+        return Outcome {
+            live: last,
+            note: b.note,
+        };
+    }
+    Outcome {
+        live: live,
+        note: b.note,
+    }
 }
 
 // An event.
@@ -152,11 +227,11 @@ pub fn step(s: State, e: Event) -> Answer
     ensures is { λ r. ⌜ r ≡ stepOf s e ⌝ }
     ensures valid { λ r. ⌜ Good (r .state) ⌝ }
 {
-    match e {
-        Event::Telegram(w) => on_telegram(s, w),
-        Event::Levels(l) => on_levels(s, l),
-        Event::Tick(ms) => on_tick(s, ms),
-    }
+    let mut table = s.table;
+    let l = s.live;
+    let x = advance(&mut table, l, e);
+    let live = x.live;
+    answered(State { table, live }, x.note)
 }
 
 // What loading a table answers.

@@ -7,7 +7,8 @@ use lib.Dec.{eqb}
 use lib.IntN.{ℤ}
 use Rattle.analog.specs.declared.Drive.{Drive}
 use Rattle.analog.specs.declared.Drive.the-variants.{Off}
-use Rattle.analog.specs.Drives.{driveFor}
+use Rattle.analog.specs.AnalogCode.{codeOf}
+use Rattle.analog.specs.Drives.{driveOf}
 use Rattle.integers.specs.Fraction.{Frac, Ratio}
 use Rattle.measurement.specs.declared.Measured.{Measured}
 use Rattle.measurement.specs.Curve.{steepest}
@@ -29,12 +30,16 @@ placeOf t w = turnedOf (slot.direction t) (widthOf (layoutOf t)) (positionOf (la
 unfoldable pub measuredAt : List ℤ → ℕ → Measured
 measuredAt t w = measuredOf (scalingOf t) (pointsOf t) (placeOf t w) (errorReported (layoutOf t) w)
 
--- step 5, "under an error the analog drive is off"; else the drive of the result
+-- the code of the result in the format and between the ends of the table
+unfoldable pub codeAt : List ℤ → Measured → ℤ
+codeAt t m = codeOf (slot.analogFormat t) (slot.analogStart t) (slot.analogEnd t) (m .result)
+
+-- step 5, "under an error the analog drive is off"; else the drive of the code
 unfoldable pub driveAt : List ℤ → Measured → Drive
-driveAt t m = cond (eqb (errorNumber (m .error)) 0) (driveFor (slot.analogFormat t) (slot.analogStart t) (slot.analogEnd t) (m .result)) Off
+driveAt t m = cond (eqb (errorNumber (m .error)) 0) (driveOf (slot.analogFormat t) (codeAt t m)) Off
 
 unfoldable pub readingOf : List ℤ → ℕ → Reading
-readingOf t w = record { result = measuredAt t w .result; error = measuredAt t w .error; drive = driveAt t (measuredAt t w) }
+readingOf t w = record { result = measuredAt t w .result; error = measuredAt t w .error; code = codeAt t (measuredAt t w); drive = driveAt t (measuredAt t w) }
 
 -- L(E), and S, of a telegram
 unfoldable pub curveAt : List ℤ → ℕ → Frac

@@ -1,10 +1,10 @@
-// One reading: from a table and a telegram to the result, the error and the analog drive.
+// One reading: from a table and a telegram to the result, the error, the analog code and the drive.
 // Uses `settings` and the parts that it hands the settings to: `ssi`, `measurement` and `analog`.
 ghost use mathlib.Core.Path.{_≡_};
 ghost use lib.ListN.{length};
 ghost use Rattle.parameters.specs.Valid.{Valid};
 ghost use Rattle.settings.specs.Settings.{pointsOf};
-ghost use Rattle.reading.specs.Reading.{acceptsOf, placeOf, measuredAt, driveAt, readingOf};
+ghost use Rattle.reading.specs.Reading.{acceptsOf, placeOf, measuredAt, codeAt, driveAt, readingOf};
 use analog::Drive;
 use measurement::Error;
 use measurement::Measured;
@@ -17,7 +17,9 @@ pub struct Reading {
     // The result, 0 under an error.
     pub result: i32,
     pub error: Error,
-    // Off under an error.
+    // The analog code of the result.
+    pub code: i32,
+    // The drive of the code, off under an error.
     pub drive: Drive,
 }
 
@@ -57,33 +59,43 @@ pub fn measured(t: &[i32; 104], telegram: u32) -> Measured
     measurement::measure(settings::scaling(t), points(t), p, reported)
 }
 
-// The drive of a measured result: off under an error.
-pub fn driven(t: &[i32; 104], m: Measured) -> Drive
+// The analog code of a measured result.
+fn code_of(t: &[i32; 104], m: Measured) -> i32
+    ensures { λ r. ⌜ r ≡ codeAt (now (t .entry)) m ⌝ }
+{
+    analog::code(
+        number(t, slots::ANALOG_FORMAT),
+        word(t, slots::ANALOG_START),
+        word(t, slots::ANALOG_END),
+        m.result,
+    )
+}
+
+// The drive of a measured result with its code: off under an error.
+fn driven(t: &[i32; 104], m: Measured, code: i32) -> Drive
+    requires { ⌜ code ≡ codeAt (now t) m ⌝ }
     ensures { λ r. ⌜ r ≡ driveAt (now (t .entry)) m ⌝ }
 {
     let e = m.error;
     if measurement::error_number(e) == 0 {
-        return analog::drive_for(
-            number(t, slots::ANALOG_FORMAT),
-            word(t, slots::ANALOG_START),
-            word(t, slots::ANALOG_END),
-            m.result,
-        );
+        return analog::drive_of(number(t, slots::ANALOG_FORMAT), code);
     }
     Drive::Off
 }
 
-// Result, error and drive of a telegram.
+// Result, error, code and drive of a telegram.
 pub fn read(t: &[i32; 104], telegram: u32) -> Reading
     requires { ⌜ Valid (now t) ⌝ }
     ensures { λ r. ⌜ r ≡ readingOf (now (t .entry)) telegram ⌝ }
 {
     let m = measured(t, telegram);
-    let drive = driven(t, m);
+    let code = code_of(t, m);
+    let drive = driven(t, m, code);
     let error = m.error;
     Reading {
         result: m.result,
         error: error,
+        code: code,
         drive: drive,
     }
 }

@@ -1,10 +1,10 @@
 // Least and greatest after the log of a case, its words run one at a time.
 use crate::case;
+use commands::state::Extremes;
+use commands::state::State;
 use events::Pending;
 use events::Taken;
-use panel::state::Extremes;
-use panel::state::State;
-ghost use Rattle.panel.specs.Valid.{Good};
+ghost use Rattle.commands.specs.Valid.{Good};
 
 // A run between two words of its log.
 struct Run {
@@ -52,7 +52,8 @@ fn run_log(fresh: State, c: &[u8; 728]) -> State
 
 // Least and greatest of a state.
 fn extremes(s: State) -> Extremes {
-    s.extremes
+    let l = s.live;
+    l.extremes
 }
 
 // Whether least and greatest after the log are as recorded.

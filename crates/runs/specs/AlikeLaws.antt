@@ -10,7 +10,7 @@ use lib.Seq.{ext-getD, getD-drop}
 use Rattle.measurement.specs.Measure.{usedPoints}
 use Rattle.parameters.specs.Slots as slot
 use Rattle.parameters.specs.Stores.{Alike}
-use Rattle.reading.specs.Reading.{acceptsOf, placeOf, measuredAt, driveAt, readingOf, curveAt, slopeAt}
+use Rattle.reading.specs.Reading.{acceptsOf, placeOf, measuredAt, codeAt, driveAt, readingOf, curveAt, slopeAt}
 use Rattle.settings.specs.Settings.{layoutOf, scalingOf, pointsOf, preselectionOf, preselectionsOf}
 use Rattle.switching.specs.Switching.{preselectionAt}
 
@@ -99,7 +99,7 @@ module _ {s t : List ℤ} (a : Alike s t) where
       measured-alike w = rw (scaling-alike, points-alike, place-alike w, layout-alike)
 
       pub reading-alike : (w : ℕ) → readingOf s w ≡ readingOf t w
-      unfolding readingOf driveAt
+      unfolding readingOf codeAt driveAt
       reading-alike w =
           rw (
             measured-alike w,

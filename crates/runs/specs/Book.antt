@@ -11,7 +11,7 @@ use Rattle.parameters.specs.Slots.{offset, action, config}
 use Rattle.reading.specs.Reading.{acceptsOf, placeOf}
 use Rattle.settings.specs.Settings.{layoutOf}
 use Rattle.ssi.specs.Telegram.{errorReported}
-use Rattle.panel.specs.Commands.{resetRefusal, highAt, actsOn}
+use Rattle.commands.specs.Commands.{resetRefusal, highAt, actsOn}
 
 pub record Book : Type 0 where
   pub levels : ℕ

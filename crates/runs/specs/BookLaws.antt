@@ -21,13 +21,14 @@ use Rattle.reading.specs.Reading.{acceptsOf, placeOf, measuredAt, readingOf}
 use Rattle.settings.specs.Settings.{layoutOf, scalingOf, pointsOf}
 use Rattle.ssi.specs.Telegram.{errorReported}
 use Rattle.panel.specs.declared.Answer.{Answer}
-use Rattle.panel.specs.declared.commands.Acted.{Acted}
-use Rattle.panel.specs.declared.state.State.{State}
-use Rattle.panel.specs.State.{freshOf, withLevels, withTelegram}
-use Rattle.panel.specs.Commands.{errorOf, rereadOf, acted, resetRefusal, resetOf, clearLocksOf, clearExtremesOf, teachOf, refusalOf, carriedOut, commandOf, edgeAt, inputOf, commandsOf}
+use Rattle.commands.specs.Commands.{Acted}
+use Rattle.commands.specs.declared.state.State.{State}
+use Rattle.commands.specs.State.{freshOf, withLevels, withTelegram}
+use Rattle.commands.specs.Commands.{errorOf, rereadOf, acted, resetRefusal, resetOf, clearLocksOf, clearExtremesOf, teachOf, refusalOf, carriedOut, commandOf, edgeAt, inputOf, commandsOf}
 use Rattle.panel.specs.Step.{answerOf, switchedOf, displayedOf, settledOf, telegramOf, levelsOf, tickOf, stepOf}
-use Rattle.panel.specs.Valid.{Good}
-use Rattle.panel.specs.ValidLaws.{by-command, good-input, good-step}
+use Rattle.commands.specs.Valid.{Good}
+use Rattle.commands.specs.CommandLaws.{by-command, good-input}
+use Rattle.panel.specs.ValidLaws.{good-step}
 use Rattle.runs.specs.Run.{runOf}
 use Rattle.runs.specs.Book.{Book, freshBook, turnsTo, movesTo, asksReset, bookRefusal, bookInput, bookStep, bookFrom}
 use Rattle.runs.specs.AlikeLaws.{layout-alike, accepts-alike, place-alike, action-alike, config-alike}
@@ -35,7 +36,7 @@ use Rattle.runs.specs.KeptLaws.{Kept, kept-input, kept-step}
 
 -- what a state says of the book
 abbrev pub bookIn : State → Book
-bookIn s = record { levels = s .levels; seen = s .seen; telegram = s .telegram; offset = offset (s .table) }
+bookIn s = record { levels = s .live .levels; seen = s .live .seen; telegram = s .live .telegram; offset = offset (s .table) }
 
 -- ---- error 3
 
@@ -63,29 +64,29 @@ refusal-by true true error place f = rw (f tt)
 refusal-by true false error place f = rw (f tt)
 
 module _ {t : List ℤ} {s : State} (k : Kept t s) where
-  refusal-same : resetRefusal (s .seen) (errorOf s) (placeOf (s .table) (s .telegram)) ≡ bookRefusal t (bookIn s)
+  refusal-same : resetRefusal (s .live .seen) (errorOf s) (placeOf (s .table) (s .live .telegram)) ≡ bookRefusal t (bookIn s)
   unfolding bookRefusal
   refusal-same =
-      rw (place-alike (k .alike) (s .telegram))
-      (refusal-by (s .seen) (errorReported (layoutOf t) (s .telegram)) (errorOf s) (placeOf t (s .telegram))
-      (λ y. rw (k .read y, ← layout-alike (k .alike)) (reading-bit (s .table) (s .telegram))))
+      rw (place-alike (k .alike) (s .live .telegram))
+      (refusal-by (s .live .seen) (errorReported (layoutOf t) (s .live .telegram)) (errorOf s) (placeOf t (s .live .telegram))
+      (λ y. rw (k .read y, ← layout-alike (k .alike)) (reading-bit (s .table) (s .live .telegram))))
 
 -- ---- a command
 
-pub book-reset : {t : List ℤ} {s : State} → Good s → Kept t s → bookIn (resetOf s) ≡ movesTo (bookIn s) (pos (placeOf t (s .telegram)))
+pub book-reset : {t : List ℤ} {s : State} → Good s → Kept t s → bookIn (resetOf s) ≡ movesTo (bookIn s) (pos (placeOf t (s .live .telegram)))
 unfolding resetOf rereadOf
-book-reset {t} {s} g k = rw (offset-stored (pos (placeOf (s .table) (s .telegram))) (g .table), place-alike (k .alike) (s .telegram))
+book-reset {t} {s} g k = rw (offset-stored (pos (placeOf (s .table) (s .live .telegram))) (g .table), place-alike (k .alike) (s .live .telegram))
 
-reset-command : (a : ℕ) (s : State) → T (eqb a 1) → commandOf a s .state ≡ cond (eqb (resetRefusal (s .seen) (errorOf s) (placeOf (s .table) (s .telegram))) 0) (resetOf s) s
+reset-command : (a : ℕ) (s : State) → T (eqb a 1) → commandOf a s .state ≡ cond (eqb (resetRefusal (s .live .seen) (errorOf s) (placeOf (s .table) (s .live .telegram))) 0) (resetOf s) s
 unfolding commandOf refusalOf carriedOut
 reset-command a s y =
     rw (is-true (eqb a 1) y)
-    (map-cond (λ (x : Acted). x .state) (eqb (resetRefusal (s .seen) (errorOf s) (placeOf (s .table) (s .telegram))) 0) _ _)
+    (map-cond (λ (x : Acted). x .state) (eqb (resetRefusal (s .live .seen) (errorOf s) (placeOf (s .table) (s .live .telegram))) 0) _ _)
 
 module _ {t : List ℤ} {s : State} (g : Good s) (k : Kept t s) where
   -- O after a command
   abbrev Moved : Bool → Book
-  Moved resets = cond (resets && eqb (bookRefusal t (bookIn s)) 0) (movesTo (bookIn s) (pos (placeOf t (s .telegram)))) (bookIn s)
+  Moved resets = cond (resets && eqb (bookRefusal t (bookIn s)) 0) (movesTo (bookIn s) (pos (placeOf t (s .live .telegram)))) (bookIn s)
 
   book-command : (a : ℕ) → bookIn (commandOf a s .state) ≡ Moved (eqb a 1)
   unfolding clearLocksOf clearExtremesOf teachOf
@@ -96,7 +97,7 @@ module _ {t : List ℤ} {s : State} (g : Good s) (k : Kept t s) where
       ∙ ap (λ (b : Book). cond (eqb (bookRefusal t (bookIn s)) 0) b (bookIn s)) (book-reset g k)))
       (λ n. rw (is-false (eqb a 1) n)
       (by-command a s (λ (u : State). bookIn u ≡ bookIn s) refl (λ y. absurd (never (eqb a 1) y n)) refl refl
-      (λ j h _ _. rw (word-kept (s .table) (preselectionSlot j) (s .reading .result) offsetSlot (λ e. omega arith)))))
+      (λ j h _ _. rw (word-kept (s .table) (preselectionSlot j) (s .live .reading .result) offsetSlot (λ e. omega arith)))))
     where
       never : (b : Bool) → T b → T (not b) → ⊥
       never true y n = n

@@ -23,12 +23,13 @@ use Rattle.switching.specs.SwitchingLaws.{Held, fresh-held, markAt, switched-at
 use Rattle.switching.specs.Travel.{hysteretic}
 use Rattle.switching.specs.TravelLaws.{Turns, Lawful, stays, view}
 use Rattle.panel.specs.declared.Answer.{Answer}
-use Rattle.panel.specs.declared.commands.Acted.{Acted}
-use Rattle.panel.specs.declared.state.State.{State}
-use Rattle.panel.specs.State.{freshOf, withLevels, withTelegram, withSwitches}
-use Rattle.panel.specs.Commands.{rereadOf, acted, resetOf, clearLocksOf, clearExtremesOf, isTeach, teachOf, refusalOf, commandOf, edgeAt, inputOf, commandsOf}
+use Rattle.commands.specs.Commands.{Acted}
+use Rattle.commands.specs.declared.state.State.{State}
+use Rattle.commands.specs.State.{freshOf, withLevels, withTelegram, withSwitches}
+use Rattle.commands.specs.Commands.{rereadOf, acted, resetOf, clearLocksOf, clearExtremesOf, isTeach, teachOf, refusalOf, commandOf, edgeAt, inputOf, commandsOf}
 use Rattle.panel.specs.Step.{answerOf, switchedOf, displayedOf, settledOf, telegramOf, levelsOf, tickOf, stepOf}
-use Rattle.panel.specs.ValidLaws.{by-switched, by-command, by-input, by-step}
+use Rattle.commands.specs.CommandLaws.{by-command, by-input}
+use Rattle.panel.specs.ValidLaws.{by-switched, by-step}
 use Rattle.runs.specs.Run.{answersOf, counted, seenIn, teaches, storesAt, storedBy, stored}
 use Rattle.runs.specs.AlikeLaws.{action-alike, preselections-alike}
 use Rattle.runs.specs.RunLaws.{step-own, own-result, own-error}
@@ -80,7 +81,7 @@ command-stores : (a : ℕ) (s : State) → T (not (teaches a s)) → preselectio
 unfolding teaches resetOf rereadOf clearLocksOf clearExtremesOf
 command-stores a s n =
     by-command a s (λ (u : State). preselectionsIn u ≡ preselectionsIn s) refl
-    (λ _ _. offset-preselections (s .table) (pos (placeOf (s .table) (s .telegram)))) refl refl
+    (λ _ _. offset-preselections (s .table) (pos (placeOf (s .table) (s .live .telegram)))) refl refl
     (λ k h y z. absurd (never (teaches a s) (both (isTeach a) (eqb (refusalOf a s) 0) y z) n))
 
 input-stores : (l i : ℕ) (x : Acted) → T (not (storesAt l i x)) → preselectionsIn (inputOf l i x .state) ≡ preselectionsIn (x .state)
@@ -160,10 +161,10 @@ quiet-unchanged ps s (v ∷ es) n e =
 
 -- condition k + 1, and whether its suppression has ended
 abbrev pub switchIn : State → ℕ → Switch
-switchIn s k = switchAt (s .switches) k
+switchIn s k = switchAt (s .live .switches) k
 
 -- in the fresh state all four are fresh
-fresh-four : (t : List ℤ) → length (freshOf t .switches) ≡ 4
+fresh-four : (t : List ℤ) → length (freshOf t .live .switches) ≡ 4
 unfolding freshOf
 fresh-four t = refl
 
@@ -176,12 +177,12 @@ fresh-switch t (suc (suc (suc zero))) h = refl
 fresh-switch t (suc (suc (suc (suc k)))) h = absurd (omega arith)
 
 record Left (s u : State) (k : ℕ) : Type 0 where
-  four : length (u .switches) ≡ 4
+  four : length (u .live .switches) ≡ 4
   on-same : switchIn u k .on ≡ switchIn s k .on
   released-same : switchIn u k .released ≡ switchIn s k .released
 
 module _ (k : ℕ) (small : k < 4) where
-  left-refl : (s : State) → length (s .switches) ≡ 4 → Left s s k
+  left-refl : (s : State) → length (s .live .switches) ≡ 4 → Left s s k
   left-refl s e = record { four = e; on-same = refl; released-same = refl }
 
   left-command : (a : ℕ) (s u : State) → Left s u k → Left s (commandOf a u .state) k
@@ -190,9 +191,9 @@ module _ (k : ℕ) (small : k < 4) where
       by-command a u (λ (v : State). Left s v k) q
       (λ _ _. record { four = q .four; on-same = q .on-same; released-same = q .released-same })
       (record {
-        four = each-length 0 (λ j. unlockedOf) (u .switches) ∙ q .four;
-        on-same = rw (all-unlocked-at (u .switches) (q .four) k small) (q .on-same);
-        released-same = rw (all-unlocked-at (u .switches) (q .four) k small) (q .released-same);
+        four = each-length 0 (λ j. unlockedOf) (u .live .switches) ∙ q .four;
+        on-same = rw (all-unlocked-at (u .live .switches) (q .four) k small) (q .on-same);
+        released-same = rw (all-unlocked-at (u .live .switches) (q .four) k small) (q .released-same);
       })
       (record { four = q .four; on-same = q .on-same; released-same = q .released-same })
       (λ j h y z. record { four = q .four; on-same = q .on-same; released-same = q .released-same })
@@ -200,7 +201,7 @@ module _ (k : ℕ) (small : k < 4) where
   left-input : (l i : ℕ) (s : State) (x : Acted) → Left s (x .state) k → Left s (inputOf l i x .state) k
   left-input l i s x q = by-input l i x (λ (v : State). Left s v k) (λ _. left-command (action (x .state .table) i) s (x .state) q) q
 
-  left-commands : (s : State) (l : ℕ) → length (s .switches) ≡ 4 → Left s (commandsOf s l .state) k
+  left-commands : (s : State) (l : ℕ) → length (s .live .switches) ≡ 4 → Left s (commandsOf s l .state) k
   unfolding commandsOf
   left-commands s l e =
       left-input l 2 s (inputOf l 1 (inputOf l 0 (acted s 0))) (left-input l 1 s (inputOf l 0 (acted s 0)) (left-input l 0 s (acted s 0) (left-refl s e)))
@@ -208,7 +209,7 @@ module _ (k : ℕ) (small : k < 4) where
 -- ---- an event turns a condition by the rule of its mode
 
 -- the result that travel counts is the state's
-pub counted-is : {t : List ℤ} {s : State} → Kept t s → (e : Event) → counted (stepOf s e) ≡ stepOf s e .state .reading .result
+pub counted-is : {t : List ℤ} {s : State} → Kept t s → (e : Event) → counted (stepOf s e) ≡ stepOf s e .state .live .reading .result
 counted-is {t} {s} c e = rw (own-error (step-own s e), own-result (step-own s e)) (kept-step t c e .zeroed)
 
 module _ (ps : List Preselection) (k : ℕ) (small : k < 4) (hy : T (hysteretic (preselectionAt ps k .mode))) where
@@ -218,12 +219,12 @@ module _ (ps : List Preselection) (k : ℕ) (small : k < 4) (hy : T (hysteretic 
 
   -- there are four switches, and this one is off while it is suppressed
   pub record Ready (s : State) : Type 0 where
-    pub four : length (s .switches) ≡ 4
+    pub four : length (s .live .switches) ≡ 4
     pub held : Held (switchIn s k)
 
   -- an event leads from s to u
   record Law (s u : State) : Type 0 where
-    turns : Obeys (u .reading .result) (switchIn s k .on) (switchIn u k .on)
+    turns : Obeys (u .live .reading .result) (switchIn s k .on) (switchIn u k .on)
     ready : Ready u
 
   law-same : (s : State) → Ready s → Law s s
@@ -235,34 +236,34 @@ module _ (ps : List Preselection) (k : ℕ) (small : k < 4) (hy : T (hysteretic 
       by-switched u (λ (v : State). Law s (displayedOf v))
       (λ _. record {
         turns =
-            subst (λ (w : Switch). Obeys (u .reading .result) (switchIn s k .on) (w .on)) (sym switch-is)
-            (subst (λ (b : Bool). Obeys (u .reading .result) b (switchedAt ps (u .reading .result) k (switchIn u k) .on)) (q .on-same)
-            (switched-at-turns ps (u .reading .result) k (switchIn u k) hy held));
+            subst (λ (w : Switch). Obeys (u .live .reading .result) (switchIn s k .on) (w .on)) (sym switch-is)
+            (subst (λ (b : Bool). Obeys (u .live .reading .result) b (switchedAt ps (u .live .reading .result) k (switchIn u k) .on)) (q .on-same)
+            (switched-at-turns ps (u .live .reading .result) k (switchIn u k) hy held));
         ready = record {
-          four = each-length 0 (switchedAt (preselectionsIn u) (u .reading .result)) (u .switches) ∙ q .four;
-          held = subst Held (sym switch-is) (switched-at-held ps (u .reading .result) k (switchIn u k));
+          four = each-length 0 (switchedAt (preselectionsIn u) (u .live .reading .result)) (u .live .switches) ∙ q .four;
+          held = subst Held (sym switch-is) (switched-at-held ps (u .live .reading .result) k (switchIn u k));
         };
       })
       (λ _. record {
-        turns = subst (λ (b : Bool). Obeys (u .reading .result) b (switchIn u k .on)) (q .on-same) (stays _ _ _ (switchIn u k .on));
+        turns = subst (λ (b : Bool). Obeys (u .live .reading .result) b (switchIn u k .on)) (q .on-same) (stays _ _ _ (switchIn u k .on));
         ready = record { four = q .four; held = held };
       })
     where
       held : Held (switchIn u k)
       held n = rw (q .on-same) (i .held (rw (q .released-same) at n))
 
-      switch-is : switchAt (allSwitched (preselectionsIn u) (u .reading .result) (u .switches)) k ≡ switchedAt ps (u .reading .result) k (switchIn u k)
-      switch-is = all-switched-at (u .switches) (q .four) k small (preselectionsIn u) (u .reading .result) ∙ rw e
+      switch-is : switchAt (allSwitched (preselectionsIn u) (u .live .reading .result) (u .live .switches)) k ≡ switchedAt ps (u .live .reading .result) k (switchIn u k)
+      switch-is = all-switched-at (u .live .switches) (q .four) k small (preselectionsIn u) (u .live .reading .result) ∙ rw e
 
-  law-ticked : (s : State) (ms : ℕ) → Ready s → Law s (withSwitches s (allTicked ms (s .switches)))
+  law-ticked : (s : State) (ms : ℕ) → Ready s → Law s (withSwitches s (allTicked ms (s .live .switches)))
   law-ticked s ms i =
       record {
-        turns = subst (λ (w : Switch). Obeys (s .reading .result) (switchIn s k .on) (w .on)) (sym switch-is) (stays _ _ _ (switchIn s k .on));
-        ready = record { four = each-length 0 (λ j. tickedOf ms) (s .switches) ∙ i .four; held = subst Held (sym switch-is) (i .held) };
+        turns = subst (λ (w : Switch). Obeys (s .live .reading .result) (switchIn s k .on) (w .on)) (sym switch-is) (stays _ _ _ (switchIn s k .on));
+        ready = record { four = each-length 0 (λ j. tickedOf ms) (s .live .switches) ∙ i .four; held = subst Held (sym switch-is) (i .held) };
       }
     where
-      switch-is : switchAt (allTicked ms (s .switches)) k ≡ tickedOf ms (switchIn s k)
-      switch-is = all-ticked-at (s .switches) (i .four) k small ms
+      switch-is : switchAt (allTicked ms (s .live .switches)) k ≡ tickedOf ms (switchIn s k)
+      switch-is = all-ticked-at (s .live .switches) (i .four) k small ms
 
   law-step : (s : State) (e : Event) → Ready s → preselectionsIn (stepOf s e .state) ≡ ps → Law s (stepOf s e .state)
   unfolding rereadOf

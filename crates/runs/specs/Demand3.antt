@@ -14,7 +14,7 @@ use Rattle.parameters.specs.Load.{loadNumber}
 use Rattle.parameters.specs.Slots.{linearization, mode, hysteresis, withOffset}
 use Rattle.reading.specs.Reading.{curveAt, slopeAt}
 use Rattle.switching.specs.Travel.{travel, changes, hysteretic}
-use Rattle.panel.specs.State.{freshOf}
+use Rattle.commands.specs.State.{freshOf}
 use Rattle.runs.specs.Run.{lastAnswer, traceOf, stored}
 use Rattle.runs.specs.Book.{Book, bookOf}
 

@@ -23,12 +23,13 @@ use Rattle.switching.specs.Switching.{partnerOf, preselectionAt}
 use Rattle.switching.specs.SwitchingLaws.{markAt}
 use Rattle.switching.specs.Travel.{Seen, travel, changes, hysteretic}
 use Rattle.switching.specs.TravelLaws.{Lawful, view, mode-bound}
-use Rattle.panel.specs.declared.state.State.{State}
-use Rattle.panel.specs.State.{freshOf}
-use Rattle.panel.specs.Commands.{isTeach}
+use Rattle.commands.specs.declared.state.State.{State}
+use Rattle.commands.specs.State.{freshOf}
+use Rattle.commands.specs.Commands.{isTeach}
 use Rattle.panel.specs.Step.{answerOf}
-use Rattle.panel.specs.Valid.{Good}
-use Rattle.panel.specs.ValidLaws.{good-fresh, good-step}
+use Rattle.commands.specs.Valid.{Good}
+use Rattle.commands.specs.CommandLaws.{good-fresh}
+use Rattle.panel.specs.ValidLaws.{good-step}
 use Rattle.runs.specs.Run.{runOf, lastAnswer, traceOf, stored}
 use Rattle.runs.specs.Book.{Book, bookOf}
 use Rattle.runs.specs.Demand3.{exactAt, Demanded}
@@ -54,20 +55,20 @@ kept-run {t} k (e ∷ es) = kept-run (kept-step t k e) es
 
 module _ {t : List ℤ} (v : Valid t) where
   -- of a state, with what it says of the book
-  accurate-in : {s : State} → Good s → Kept t s → T (s .seen) → s .reading .error ≡ Error.None → Accurate (s .reading .result) (exactAt t (bookIn s)) (slopeAt t)
+  accurate-in : {s : State} → Good s → Kept t s → T (s .live .seen) → s .live .reading .error ≡ Error.None → Accurate (s .live .reading .result) (exactAt t (bookIn s)) (slopeAt t)
   accurate-in {s} g k y e =
       rw (k .read y)
-      (subst (λ (S : Ratio). Accurate (readingOf (s .table) (s .telegram) .result) (exactAt t (bookIn s)) S) (slope-alike (k .alike) long)
-      (subst (λ (u : Frac). Accurate (readingOf (s .table) (s .telegram) .result) u (slopeAt (s .table))) curve-same
-      (reading.accurate (g .table) (s .telegram) (ap (λ (r : Reading). r .error) (sym (k .read y)) ∙ e))))
+      (subst (λ (S : Ratio). Accurate (readingOf (s .table) (s .live .telegram) .result) (exactAt t (bookIn s)) S) (slope-alike (k .alike) long)
+      (subst (λ (u : Frac). Accurate (readingOf (s .table) (s .live .telegram) .result) u (slopeAt (s .table))) curve-same
+      (reading.accurate (g .table) (s .live .telegram) (ap (λ (r : Reading). r .error) (sym (k .read y)) ∙ e))))
     where
       long : length (s .table) ≡ length t
       long = g .table .long ∙ sym (v .long)
 
-      curve-same : curveAt (s .table) (s .telegram) ≡ exactAt t (bookIn s)
+      curve-same : curveAt (s .table) (s .live .telegram) ≡ exactAt t (bookIn s)
       curve-same =
           curve-alike (alike-trans (k .alike) (alike-sym (offset-alike t (offset (s .table))))) (long ∙ sym (length-set t offsetSlot (offset (s .table))))
-          (sym (offset-stored (offset (s .table)) v)) (s .telegram)
+          (sym (offset-stored (offset (s .table)) v)) (s .live .telegram)
 
   -- of the result last answered, with the book
   accurately : (es : List Event) → T (bookOf t es .seen) → lastAnswer t es .error ≡ Error.None → Accurate (lastAnswer t es .result) (exactAt t (bookOf t es)) (slopeAt t)
@@ -75,7 +76,7 @@ module _ {t : List ℤ} (v : Valid t) where
   accurately es =
       let o = last-own (answerOf (freshOf t) 0) es (answer-own (freshOf t) 0) in
       rw (own-result o, own-error o, last-state (answerOf (freshOf t) 0) es)
-      (subst (λ (b : Book). T (b .seen) → runOf (freshOf t) es .reading .error ≡ Error.None → Accurate (runOf (freshOf t) es .reading .result) (exactAt t b) (slopeAt t)) book-is
+      (subst (λ (b : Book). T (b .seen) → runOf (freshOf t) es .live .reading .error ≡ Error.None → Accurate (runOf (freshOf t) es .live .reading .result) (exactAt t b) (slopeAt t)) book-is
       (accurate-in (good-run (good-fresh v) es) (kept-run (kept-fresh t) es)))
     where
       book-is : bookIn (runOf (freshOf t) es) ≡ bookOf t es

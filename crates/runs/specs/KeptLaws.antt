@@ -20,11 +20,12 @@ use Rattle.parameters.specs.Stores.{Alike, word-kept, offset-alike, preselectio
 use Rattle.reading.specs.Reading.{placeOf, measuredAt, readingOf}
 use Rattle.settings.specs.Settings.{layoutOf, scalingOf, pointsOf}
 use Rattle.ssi.specs.Telegram.{errorReported}
-use Rattle.panel.specs.declared.commands.Acted.{Acted}
-use Rattle.panel.specs.declared.state.State.{State}
-use Rattle.panel.specs.State.{freshOf, withTable, withLevels, withTelegram}
-use Rattle.panel.specs.Commands.{readAgain, rereadOf, acted, resetOf, clearLocksOf, clearExtremesOf, teachOf, commandOf, inputOf, commandsOf}
-use Rattle.panel.specs.ValidLaws.{by-command, by-input, by-step}
+use Rattle.commands.specs.Commands.{Acted}
+use Rattle.commands.specs.declared.state.State.{State}
+use Rattle.commands.specs.State.{freshOf, withTable, withLevels, withTelegram}
+use Rattle.commands.specs.Commands.{readAgain, rereadOf, acted, resetOf, clearLocksOf, clearExtremesOf, teachOf, commandOf, inputOf, commandsOf}
+use Rattle.commands.specs.CommandLaws.{by-command, by-input}
+use Rattle.panel.specs.ValidLaws.{by-step}
 use Rattle.panel.specs.Step.{switchedOf, displayedOf, settledOf, stepOf}
 use Rattle.runs.specs.AlikeLaws.{alike-refl, alike-trans, reading-alike}
 
@@ -51,8 +52,8 @@ reading-zeroed t w = judged-zeroed (errorReported (layoutOf t) w) (valueOf (scal
 
 pub record Kept (t : List ℤ) (s : State) : Type 0 where
   pub alike : Alike (s .table) t
-  pub read : T (s .seen) → s .reading ≡ readAgain s
-  pub zeroed : Zeroed (s .reading .result) (errorNumber (s .reading .error))
+  pub read : T (s .live .seen) → s .live .reading ≡ readAgain s
+  pub zeroed : Zeroed (s .live .reading .result) (errorNumber (s .live .reading .error))
 
 module _ (t : List ℤ) where
   pub kept-fresh : Kept t (freshOf t)
@@ -61,26 +62,26 @@ module _ (t : List ℤ) where
 
   pub kept-reread : (s : State) → Alike (s .table) t → Kept t (rereadOf s)
   unfolding rereadOf
-  kept-reread s a = record { alike = a; read = λ _. refl; zeroed = reading-zeroed (s .table) (s .telegram) }
+  kept-reread s a = record { alike = a; read = λ _. refl; zeroed = reading-zeroed (s .table) (s .live .telegram) }
 
   pub kept-command : (a : ℕ) (s : State) → Kept t s → Kept t (commandOf a s .state)
   unfolding resetOf clearLocksOf clearExtremesOf teachOf
   kept-command a s g =
       by-command a s (Kept t) g
-      (λ _ _. let p = pos (placeOf (s .table) (s .telegram)) in kept-reread (withTable s (withOffset (s .table) p)) (alike-trans (offset-alike (s .table) p) (g .alike)))
+      (λ _ _. let p = pos (placeOf (s .table) (s .live .telegram)) in kept-reread (withTable s (withOffset (s .table) p)) (alike-trans (offset-alike (s .table) p) (g .alike)))
       (record { alike = g .alike; read = g .read; zeroed = g .zeroed })
       (record { alike = g .alike; read = g .read; zeroed = g .zeroed })
       (λ k h _ _. record {
         alike = alike-trans (taught k h) (g .alike);
-        read = λ y. g .read y ∙ sym (reading-alike (taught k h) (length-set (s .table) (preselectionSlot k) (s .reading .result)) (offset-same k) (s .telegram));
+        read = λ y. g .read y ∙ sym (reading-alike (taught k h) (length-set (s .table) (preselectionSlot k) (s .live .reading .result)) (offset-same k) (s .live .telegram));
         zeroed = g .zeroed;
       })
     where
-      taught : (k : ℕ) → k < 4 → Alike (withPreselection (s .table) k (s .reading .result)) (s .table)
-      taught k h = preselection-alike (s .table) k (s .reading .result) h
+      taught : (k : ℕ) → k < 4 → Alike (withPreselection (s .table) k (s .live .reading .result)) (s .table)
+      taught k h = preselection-alike (s .table) k (s .live .reading .result) h
 
-      offset-same : (k : ℕ) → offset (withPreselection (s .table) k (s .reading .result)) ≡ offset (s .table)
-      offset-same k = word-kept (s .table) (preselectionSlot k) (s .reading .result) offsetSlot (λ e. omega arith)
+      offset-same : (k : ℕ) → offset (withPreselection (s .table) k (s .live .reading .result)) ≡ offset (s .table)
+      offset-same k = word-kept (s .table) (preselectionSlot k) (s .live .reading .result) offsetSlot (λ e. omega arith)
 
   pub kept-input : (l i : ℕ) (x : Acted) → Kept t (x .state) → Kept t (inputOf l i x .state)
   kept-input l i x g = by-input l i x (Kept t) (λ _. kept-command (action (x .state .table) i) (x .state) g) g

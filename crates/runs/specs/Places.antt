@@ -9,13 +9,13 @@ use lib.Ieee.{ofInt, mul, div, add}
 use lib.ListN.{set}
 use Rattle.analog.specs.AnalogCode as analog
 use Rattle.analog.specs.Drives as drive
+use Rattle.commands.specs.Commands as command
+use Rattle.commands.specs.State.{freshOf}
 use Rattle.events.specs.declared.Event.{Event}
 use Rattle.events.specs.declared.Event.the-variants.{Telegram}
 use Rattle.integers.specs.Round.{roundDiv, floorMod}
 use Rattle.measurement.specs.Curve as curve
 use Rattle.measurement.specs.Measure as measure
-use Rattle.panel.specs.Commands as command
-use Rattle.panel.specs.State.{freshOf}
 use Rattle.panel.specs.Step as step
 use Rattle.parameters.specs.Rows as row
 use Rattle.parameters.specs.Slots.{analogFormat, analogStart, analogEnd}
@@ -71,7 +71,7 @@ error t w = pos (measure.errorNumber (lastAnswer t (Telegram w ∷ []) .error))
 
 -- condition 1 after the last of some telegrams, 1 for on
 abbrev on : List ℤ → List Event → ℤ
-on t es = pos (cond (switching.switchAt (lastAnswer t es .state .switches) 0 .on) 1 0)
+on t es = pos (cond (switching.switchAt (lastAnswer t es .state .live .switches) 0 .on) 1 0)
 
 abbrev code : List ℤ → ℤ → ℤ
 code t r = analog.codeOf (analogFormat t) (analogStart t) (analogEnd t) r
@@ -124,5 +124,5 @@ saids [] = []
 saids (p ∷ ps) = p .said ∷ saids ps
 
 pub checked : gots places ≡ saids places
-unfolding places lastOf answersOf freshOf step.stepOf step.telegramOf step.answerOf step.displayedOf step.shownAfter step.switchedOf step.switchesAfter step.frozen step.freezes command.rereadOf command.notedOf reading.acceptsOf reading.placeOf reading.measuredAt reading.driveAt reading.readingOf settings.layoutOf settings.scalingOf settings.pointsOf settings.preselectionOf settings.preselectionsOf ssi.accepted ssi.errorReported ssi.positionOf ssi.grayDecoded measure.turnedOf measure.distanceOf measure.scaledOf measure.judgedOf measure.usedPoints measure.valueOf measure.measuredOf curve.pointsFrom curve.rightOf curve.fourQuadrants curve.oneQuadrant curve.curve curve.linearizedOf roundDiv floorMod row.defaultTable row.defaultsFrom row.rowAt row.rowOf switching.suppresses switching.releasedOf switching.heldOf switching.pulseOf switching.signalOf switching.activeOf switching.turnedOf switching.lockedOf switching.switchedOf switching.partnerOf switching.switchedAt eachFrom condition.latchedOf condition.onAbove condition.onBelow condition.onNear condition.compared condition.against condition.ruleOf condition.conditionOf condition.exceeds analog.codeOf analog.held drive.driveOf drive.floatOf ofInt mul div add
+unfolding places lastOf answersOf freshOf step.stepOf step.telegramOf step.answerOf step.displayedOf step.shownAfter step.switchedOf step.switchesAfter step.frozen step.freezes command.rereadOf command.notedOf reading.acceptsOf reading.placeOf reading.measuredAt reading.codeAt reading.driveAt reading.readingOf settings.layoutOf settings.scalingOf settings.pointsOf settings.preselectionOf settings.preselectionsOf ssi.accepted ssi.errorReported ssi.positionOf ssi.grayDecoded measure.turnedOf measure.distanceOf measure.scaledOf measure.judgedOf measure.usedPoints measure.valueOf measure.measuredOf curve.pointsFrom curve.rightOf curve.fourQuadrants curve.oneQuadrant curve.curve curve.linearizedOf roundDiv floorMod row.defaultTable row.defaultsFrom row.rowAt row.rowOf switching.suppresses switching.releasedOf switching.heldOf switching.pulseOf switching.signalOf switching.activeOf switching.turnedOf switching.lockedOf switching.switchedOf switching.partnerOf switching.switchedAt eachFrom condition.latchedOf condition.onAbove condition.onBelow condition.onNear condition.compared condition.against condition.ruleOf condition.conditionOf condition.exceeds analog.codeOf analog.held drive.driveOf drive.floatOf ofInt mul div add
 checked = refl

@@ -5,9 +5,9 @@ use borrow.Author.Tests.{eq-eqb, ne-eqb}
 use lib.IntN.{ℤ}
 use Rattle.events.specs.declared.Event.{Event}
 use Rattle.panel.specs.declared.Answer.{Answer}
-use Rattle.panel.specs.declared.state.State.{State}
+use Rattle.commands.specs.declared.state.State.{State}
 use Rattle.panel.specs.Load.{loadedOf}
-use Rattle.panel.specs.State.{freshOf}
+use Rattle.commands.specs.State.{freshOf}
 use Rattle.panel.specs.Step.{answerOf}
 use Rattle.parameters.specs.Load.{loadNumber}
 use Rattle.parameters.specs.LoadLaws.{answer-number, answer-table}

@@ -12,10 +12,10 @@ use Rattle.parameters.specs.Slots.{action}
 use Rattle.switching.specs.Switching.{switchAt}
 use Rattle.switching.specs.Travel.{Seen}
 use Rattle.panel.specs.declared.Answer.{Answer}
-use Rattle.panel.specs.declared.commands.Acted.{Acted}
-use Rattle.panel.specs.declared.state.State.{State}
-use Rattle.panel.specs.State.{freshOf}
-use Rattle.panel.specs.Commands.{acted, isTeach, refusalOf, edgeAt, inputOf}
+use Rattle.commands.specs.Commands.{Acted}
+use Rattle.commands.specs.declared.state.State.{State}
+use Rattle.commands.specs.State.{freshOf}
+use Rattle.commands.specs.Commands.{acted, isTeach, refusalOf, edgeAt, inputOf}
 use Rattle.panel.specs.Step.{answerOf, stepOf}
 
 -- "each gets the state the last returned": the state in the end, and the answers
@@ -41,7 +41,7 @@ counted a = cond (eqb (errorNumber (a .error)) 0) (a .result) (pos 0)
 
 unfoldable pub seenIn : ℕ → List Answer → List Seen
 seenIn k [] = []
-seenIn k (a ∷ rest) = record { result = counted a; on = switchAt (a .state .switches) k .on } ∷ seenIn k rest
+seenIn k (a ∷ rest) = record { result = counted a; on = switchAt (a .state .live .switches) k .on } ∷ seenIn k rest
 
 -- what the run of a table shows of it
 abbrev pub traceOf : List ℤ → List Event → ℕ → List Seen

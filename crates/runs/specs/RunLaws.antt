@@ -11,7 +11,7 @@ use Rattle.events.specs.declared.Event.the-variants.{Telegram, Levels, Tick}
 use Rattle.integers.specs.Choice.{by-test}
 use Rattle.reading.specs.Reading.{acceptsOf}
 use Rattle.panel.specs.declared.Answer.{Answer}
-use Rattle.panel.specs.declared.state.State.{State}
+use Rattle.commands.specs.declared.state.State.{State}
 use Rattle.panel.specs.Step.{answerOf, telegramOf, levelsOf, tickOf, stepOf}
 use Rattle.runs.specs.Run.{runOf, answersOf, lastOf}
 
@@ -63,10 +63,10 @@ last-own a (e ∷ es) o = last-own (stepOf (a .state) e) es (step-own (a .state)
 
 -- so the result and the error last answered are those of the state in the end
 module _ {a : Answer} (o : Own a) where
-  pub own-result : a .result ≡ a .state .reading .result
+  pub own-result : a .result ≡ a .state .live .reading .result
   unfolding answerOf
   own-result = rw o
 
-  pub own-error : a .error ≡ a .state .reading .error
+  pub own-error : a .error ≡ a .state .live .reading .error
   unfolding answerOf
   own-error = rw o

@@ -69,10 +69,12 @@ fn levels_of_8() {
     heading(b"levels of 8");
     let l = panel::load(&[0i32; 1]);
     let s = l.state;
+    let mut table = s.table;
+    let live = s.live;
     let e = Event::Levels(8);
-    let a = panel::step(s, e);
+    let o = panel::advance(&mut table, live, e);
     let mut out = [0u8; 128];
-    let end = lines::event_line(&mut out, 0, 1, e, a);
+    let end = lines::event_line(&mut out, 0, 1, e, &table, o);
     write(&out, end);
 }
 

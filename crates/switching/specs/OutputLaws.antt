@@ -1,36 +1,16 @@
--- The laws of the outputs: a search among the places below n, and an output that nobody aims at. Assumes nothing.
-use mathlib.Core.Path.{_≡_, refl, ap, _∙_}
-use mathlib.Core.Bool.{Bool, true, false, _||_, or-true}
+-- The laws of the outputs: an output that nobody aims at, and the marks that the levels are worked out from. Assumes nothing.
+use mathlib.Core.Path.{_≡_, refl}
+use mathlib.Core.Bool.{Bool, true, false, cond, not, _||_}
 use mathlib.Core.List.{List}
-use Prim.Native.Nat.{ℕ, zero, suc, _+_, _<_, _≤_}
-use native.Mathlib.Numerals.{add-one}
+use Prim.Native.Nat.{ℕ, zero, suc, _+_, _*_, _<_, _≤_}
 use native.Mathlib.Omega.{arith}
-use native.Mathlib.Decide.{decLe}
+use lib.Bits.{bitOr}
+use lib.Dec.{eqb}
+use mir.Val.{boolByte}
 use Rattle.switching.specs.declared.Preselection.{Preselection}
 use Rattle.switching.specs.declared.Switch.{Switch}
 use Rattle.switching.specs.Switching.{preselectionAt, switchAt}
-use Rattle.switching.specs.Outputs.{anyBelow, aims, drivesOf, invertsOf, activeAt, lowAt, levelOf}
-
-pub any-none : (f : ℕ → Bool) → anyBelow 0 f ≡ false
-unfolding anyBelow
-any-none f = refl
-
--- one more place, where it does not hold
-pub any-more : (n : ℕ) (f : ℕ → Bool) → anyBelow n f ≡ false → f n ≡ false → anyBelow (n + 1) f ≡ false
-unfolding anyBelow
-any-more n f e h = rw (add-one, e, h)
-
--- a place where it holds
-pub any-found : (n k : ℕ) (f : ℕ → Bool) → k < n → f k ≡ true → anyBelow n f ≡ true
-unfolding anyBelow
-any-found zero k f l h = absurd (omega arith)
-any-found (suc n) k f l h = go (decLe n k) (λ m. any-found n k f m h)
-  where
-    go : Dec (n ≤ k) → (k < n → anyBelow n f ≡ true) → (anyBelow n f || f n) ≡ true
-    go (yes y) rec =
-        let e : n ≡ k = omega arith in
-        ap (λ (j : ℕ). anyBelow n f || f j) e ∙ rw h (or-true (anyBelow n f))
-    go (no z) rec = rw (rec (omega (arith, z)))
+use Rattle.switching.specs.Outputs.{anyBelow, aims, drivesOf, invertsOf, activeAt, lowAt, levelOf, marked}
 
 -- no place where it holds
 pub any-nowhere : (n : ℕ) (f : ℕ → Bool) → ((k : ℕ) → k < n → f k ≡ false) → anyBelow n f ≡ false
@@ -46,3 +26,42 @@ unaimed-low n ps ss h =
       any-nowhere 4 (λ k. invertsOf n (preselectionAt ps k)) (λ k l. rw (h k l)),
       any-nowhere 4 (λ k. drivesOf n (preselectionAt ps k) (switchAt ss k)) (λ k l. rw (h k l)),
     )
+
+-- ---- marks
+
+-- a mark fits, and is put together from its two tests
+pub bit-at-most-1 : (b : Bool) → boolByte b ≤ 1
+bit-at-most-1 true = omega arith
+bit-at-most-1 false = omega arith
+
+pub mark-is : (a l : Bool) → boolByte a + 2 * boolByte l ≡ marked a l
+mark-is true true = refl
+mark-is true false = refl
+mark-is false true = refl
+mark-is false false = refl
+
+-- marks joined bit by bit
+pub marks-joined : (a l b m : Bool) → bitOr (marked a l) (marked b m) ≡ marked (a || b) (l || m)
+marks-joined true true true true = refl
+marks-joined true true true false = refl
+marks-joined true true false true = refl
+marks-joined true true false false = refl
+marks-joined true false true true = refl
+marks-joined true false true false = refl
+marks-joined true false false true = refl
+marks-joined true false false false = refl
+marks-joined false true true true = refl
+marks-joined false true true false = refl
+marks-joined false true false true = refl
+marks-joined false true false false = refl
+marks-joined false false true true = refl
+marks-joined false false true false = refl
+marks-joined false false false true = refl
+marks-joined false false false false = refl
+
+-- the level that marks stand for: 1, active, or 2, active low and not active
+pub marked-level : (a l : Bool) → (eqb (marked a l) 1 || eqb (marked a l) 2) ≡ cond l (not a) a
+marked-level true true = refl
+marked-level true false = refl
+marked-level false true = refl
+marked-level false false = refl

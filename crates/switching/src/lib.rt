@@ -29,12 +29,12 @@ pub struct Preselection {
 
 // The state of one preselection.
 pub struct Switch {
+    // what is left of the pulse, in ms
+    pub pulse: u32,
     // the condition
     pub on: bool,
     // start-up suppression has ended
     pub released: bool,
-    // what is left of the pulse, in ms
-    pub pulse: u32,
     // an active signal is held
     pub locked: bool,
 }
@@ -44,9 +44,9 @@ pub fn fresh() -> Switch
     ensures { λ s. ⌜ s ≡ freshSwitch ⌝ }
 {
     Switch {
+        pulse: 0,
         on: false,
         released: false,
-        pulse: 0,
         locked: false,
     }
 }
@@ -124,9 +124,9 @@ fn turned(p: Preselection, partner: i32, r: i32, released: bool, s: Switch) -> S
     let on = held(p, partner, r, released, s.on);
     let left = pulse_after(p.pulse, s.on, on, s.pulse);
     Switch {
+        pulse: left,
         on: on,
         released: released,
-        pulse: left,
         locked: s.locked,
     }
 }
@@ -205,40 +205,34 @@ fn switched_at(ps: [Preselection; 4], r: i32, k: usize, s: Switch) -> Switch
 pub fn switch_all(ps: [Preselection; 4], r: i32, ss: [Switch; 4]) -> [Switch; 4]
     ensures { λ qs. ⌜ qs ≡ allSwitched ps r ss ⌝ }
 {
-    let mut next = ss;
-    let mut k: usize = 0;
-    while k < 4 {
-        let q = switched_at(ps, r, k, next[k]);
-        next[k] = q;
-        k += 1;
-    }
-    next
+    [
+        switched_at(ps, r, 0, ss[0]),
+        switched_at(ps, r, 1, ss[1]),
+        switched_at(ps, r, 2, ss[2]),
+        switched_at(ps, r, 3, ss[3]),
+    ]
 }
 
 // The four switches after a tick.
 pub fn tick_all(ms: u16, ss: [Switch; 4]) -> [Switch; 4]
     ensures { λ qs. ⌜ qs ≡ allTicked ms ss ⌝ }
 {
-    let mut next = ss;
-    let mut k: usize = 0;
-    while k < 4 {
-        let q = ticked(ms, next[k]);
-        next[k] = q;
-        k += 1;
-    }
-    next
+    [
+        ticked(ms, ss[0]),
+        ticked(ms, ss[1]),
+        ticked(ms, ss[2]),
+        ticked(ms, ss[3]),
+    ]
 }
 
 // The four switches with their locks cleared.
 pub fn unlock_all(ss: [Switch; 4]) -> [Switch; 4]
     ensures { λ qs. ⌜ qs ≡ allUnlocked ss ⌝ }
 {
-    let mut next = ss;
-    let mut k: usize = 0;
-    while k < 4 {
-        let q = unlocked(next[k]);
-        next[k] = q;
-        k += 1;
-    }
-    next
+    [
+        unlocked(ss[0]),
+        unlocked(ss[1]),
+        unlocked(ss[2]),
+        unlocked(ss[3]),
+    ]
 }

@@ -2,64 +2,35 @@
 use crate::Preselection;
 use crate::Switch;
 ghost use mathlib.Core.Path.{_≡_};
-ghost use Rattle.switching.specs.Outputs.{drivesOf, invertsOf, activeAt, lowAt, levelOf, outputsOf};
+ghost use Rattle.switching.specs.Outputs.{markOf, shareOf, levelOf, outputsOf};
 
-// Whether a preselection is aimed at output n and active.
-fn drives(n: u32, p: Preselection, s: Switch) -> bool
-    ensures { λ b. ⌜ b ≡ drivesOf n p s ⌝ }
+// The mark of a preselection: 1 where it is active, and 2 more where it is active low.
+fn mark(p: Preselection, s: Switch) -> u32
+    ensures { λ m. ⌜ m ≡ markOf p s ⌝ }
 {
-    if p.target != n {
-        return false;
-    }
-    crate::active(p, s)
+    crate::active(p, s) as u32 + 2 * ((p.polarity == 1) as u32)
 }
 
-// Whether a preselection is aimed at output n and active low.
-fn inverts(n: u32, p: Preselection) -> bool
-    ensures { λ b. ⌜ b ≡ invertsOf n p ⌝ }
+// What a preselection gives to output n: its mark where it is aimed at it, else 0.
+fn share(n: u32, p: Preselection, s: Switch) -> u32
+    ensures { λ m. ⌜ m ≡ shareOf n p s ⌝ }
 {
-    if p.target != n {
-        return false;
+    let m = mark(p, s);
+    if p.target == n {
+        return m;
     }
-    p.polarity == 1
+    0
 }
 
-// Whether output n is active.
-fn is_active(n: u32, ps: [Preselection; 4], ss: [Switch; 4]) -> bool
-    ensures { λ b. ⌜ b ≡ activeAt n ps ss ⌝ }
-{
-    let mut k: usize = 0;
-    while k < 4 {
-        if drives(n, ps[k], ss[k]) {
-            return true;
-        }
-        k += 1;
-    }
-    false
-}
-
-// Whether output n is active low.
-fn is_low(n: u32, ps: [Preselection; 4]) -> bool
-    ensures { λ b. ⌜ b ≡ lowAt n ps ⌝ }
-{
-    let mut k: usize = 0;
-    while k < 4 {
-        if inverts(n, ps[k]) {
-            return true;
-        }
-        k += 1;
-    }
-    false
-}
-
-// The level of output n.
+// The level of output n: high where some preselection aimed at it is active and none is active low, or the other way round.
 fn level(n: u32, ps: [Preselection; 4], ss: [Switch; 4]) -> bool
     ensures { λ b. ⌜ b ≡ levelOf n ps ss ⌝ }
 {
-    if is_low(n, ps) {
-        return !is_active(n, ps, ss);
-    }
-    is_active(n, ps, ss)
+    let shares = share(n, ps[0], ss[0])
+        | share(n, ps[1], ss[1])
+        | share(n, ps[2], ss[2])
+        | share(n, ps[3], ss[3]);
+    (shares == 1) | (shares == 2)
 }
 
 // The levels of outputs 1 to 4.

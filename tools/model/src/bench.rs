@@ -1,28 +1,56 @@
-//! Times the plain 64-bit panel: nanoseconds an event, best of five.
+//! The timed events, and the plain 64-bit panel run on them.
 
 use std::hint::black_box;
-use std::time::Instant;
 
+use crate::analog::Drive;
 use crate::fast::Panel;
 use crate::log;
-use crate::panel::Event;
-use crate::panelrun;
+use crate::panel::{Answer, Event};
+use crate::panelrun::{self, TABLE_BYTES};
 use crate::rng::Rng;
 use crate::table::{self, slot, Table, SLOTS};
 use crate::telegram;
 
 /// Events made beforehand and taken in turn.
 const RING: usize = 4_096;
-const ROUNDS: usize = 5;
 
 /// The kinds that are timed.
 pub const KINDS: [&str; 4] = ["telegrams", "levels", "ticks", "mixed"];
 
-/// Times each kind of event and a mix.
-pub fn bench(count: usize) {
-    let table = table::load(&words()).unwrap();
-    for kind in KINDS {
-        println!("{kind}: {:.1} ns an event", best(&table, &events(&table, kind), count));
+/// Runs the events of an input through the 64-bit panel again and again; a sum over all answers.
+pub fn sum(input: &[u8], rounds: u64) -> u64 {
+    let table = panelrun::load(&input[..TABLE_BYTES]).unwrap();
+    let events = log::read(&input[TABLE_BYTES..]).events;
+    let mut panel = Panel::new(&table);
+    let mut sum = 0u64;
+    for _ in 0..rounds {
+        for event in &events {
+            sum = sum.wrapping_add(part(&panel.step(black_box(*event))));
+        }
+    }
+    sum
+}
+
+/// What an answer adds to the sum.
+fn part(answer: &Answer) -> u64 {
+    let high = (0..4).map(|i| u64::from(answer.outputs[i]) << i).sum::<u64>();
+    raised(answer.result)
+        + 3 * raised(answer.shown)
+        + 5 * u64::from(answer.error)
+        + 7 * high
+        + 11 * drive_part(answer.drive)
+        + 13 * u64::from(answer.note)
+}
+
+fn raised(number: i64) -> u64 {
+    (number + (1 << 31)) as u64
+}
+
+fn drive_part(drive: Drive) -> u64 {
+    match drive {
+        Drive::Off => 1,
+        Drive::Volts(x) => 2 + u64::from(x > 5.0),
+        Drive::Milliamps(x) => 4 + u64::from(x > 12.0),
     }
 }
 
@@ -36,10 +64,11 @@ pub fn input(kind: &str, count: usize) -> Vec<u8> {
     panelrun::input_of(&words(), &log)
 }
 
-/// The events of a kind, taken in turn.
+/// The events of a kind, taken in turn, behind a telegram that starts the switching.
 fn events(table: &Table, kind: &str) -> Vec<Event> {
     let mut rng = Rng::new(1);
-    match kind {
+    let first = telegram(&mut rng, table);
+    let mut events = match kind {
         "telegrams" => ring(|_| telegram(&mut rng, table)),
         "levels" => ring(levels),
         "ticks" => ring(tick),
@@ -48,7 +77,9 @@ fn events(table: &Table, kind: &str) -> Vec<Event> {
             2 => levels(i / 4),
             _ => tick(i),
         }),
-    }
+    };
+    events[0] = first;
+    events
 }
 
 fn levels(i: usize) -> Event {
@@ -67,20 +98,6 @@ fn ring(make: impl FnMut(usize) -> Event) -> Vec<Event> {
 fn telegram(rng: &mut Rng, table: &Table) -> Event {
     let position = rng.below(1 << 24);
     Event::Telegram(telegram::build(table, position, false).unwrap())
-}
-
-/// Least nanoseconds an event over the rounds.
-fn best(table: &Table, events: &[Event], count: usize) -> f64 {
-    let times = (0..ROUNDS).map(|_| {
-        let mut panel = Panel::new(table);
-        panel.step(Event::Telegram(0));
-        let start = Instant::now();
-        for event in events.iter().cycle().take(count) {
-            black_box(panel.step(black_box(*event)));
-        }
-        start.elapsed().as_nanos() as f64 / count as f64
-    });
-    times.fold(f64::INFINITY, f64::min)
 }
 
 /// A table with a 24-point curve, four modes, a pulse, a lock and three commands.

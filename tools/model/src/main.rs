@@ -1,4 +1,4 @@
-//! Commands of the model: run, print, generate, differ, record, check, bench, events.
+//! Commands of the model: run, print, generate, differ, record, check, step, events.
 
 use std::env;
 use std::io::{self, Read, Write};
@@ -15,7 +15,7 @@ const USAGE: &str = "usage:
   model differ PANELRUN_PATH SEED COUNT
   model record KIND SEED COUNT DIR   (runs or answers)
   model check KIND SEED COUNT DIR
-  model bench N
+  model step ROUNDS < input        (a sum over all answers)
   model events KIND N > input      (telegrams, levels, ticks or mixed)";
 
 fn main() -> ExitCode {
@@ -44,10 +44,7 @@ fn command(words: &[&str]) -> io::Result<bool> {
         ["check", kind, seed, count, folder] => {
             check_record(&recording(kind, number(seed)?, number(count)?)?, folder)
         }
-        ["bench", count] => {
-            bench::bench(number(count)? as usize);
-            Ok(true)
-        }
+        ["step", rounds] => step(number(rounds)?),
         ["events", kind, count] if bench::KINDS.contains(kind) => {
             io::stdout().lock().write_all(&bench::input(kind, number(count)? as usize))?;
             Ok(true)
@@ -61,10 +58,19 @@ fn number(word: &str) -> io::Result<u64> {
 }
 
 fn run() -> io::Result<bool> {
+    io::stdout().lock().write_all(panelrun::run(&input()?).as_bytes())?;
+    Ok(true)
+}
+
+fn step(rounds: u64) -> io::Result<bool> {
+    println!("{}", bench::sum(&input()?, rounds));
+    Ok(true)
+}
+
+fn input() -> io::Result<Vec<u8>> {
     let mut input = Vec::new();
     io::stdin().lock().read_to_end(&mut input)?;
-    io::stdout().lock().write_all(panelrun::run(&input).as_bytes())?;
-    Ok(true)
+    Ok(input)
 }
 
 fn generate_case(seed: u64, case: u64) -> io::Result<bool> {

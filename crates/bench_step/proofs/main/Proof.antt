@@ -1,14 +1,18 @@
--- `bench_step::main` is safe: what load answers is a valid state.
+-- `bench_step::main` is safe: a loaded table gives a valid state, and the words of the log end within their array.
+use mathlib.Core.Path.{sym}
+use lib.Seq.{length-take-le}
 use borrow.Author.Needs.{needs}
-use Rattle.panel.specs.Step.{answerOf}
 use Rattle.bench_step.proofs.main.Statement.{statement}
 use Rattle.bench_step.proofs.main.Tie as tie
 
-slice-aggregate-arg : tie.Need-slice-aggregate-arg
-slice-aggregate-arg c = search needs
+slice-aggregate-read-full : tie.Need-slice-aggregate-read-full
+slice-aggregate-read-full c = search needs
 
-arg-requires : tie.Need-arg-requires
-arg-requires c κs = search needs
+read-full-requires : tie.Need-read-full-requires
+read-full-requires c κs = search needs
+
+array-share-prefix-table : tie.Need-array-share-prefix-table
+array-share-prefix-table c = search needs
 
 slice-aggregate-load : tie.Need-slice-aggregate-load
 slice-aggregate-load c = search needs
@@ -16,30 +20,35 @@ slice-aggregate-load c = search needs
 load-requires : tie.Need-load-requires
 load-requires c κs = search needs
 
-array-read-events-of : tie.Need-array-read-events-of
-array-read-events-of c = search needs
+slice-aggregate-read-full-2 : tie.Need-slice-aggregate-read-full-2
+slice-aggregate-read-full-2 c = search needs
 
-events-of-requires : tie.Need-events-of-requires
-events-of-requires c κs = search needs
+read-full-requires-2 : tie.Need-read-full-requires-2
+read-full-requires-2 c κs = search needs
 
-answered-requires : tie.Need-answered-requires
-answered-requires c κs = search needs
+array-share-prefix-log : tie.Need-array-share-prefix-log
+array-share-prefix-log c = search needs
+
+slice-aggregate-collect : tie.Need-slice-aggregate-collect
+slice-aggregate-collect c = search needs
+
+slice-aggregate-collect-2 : tie.Need-slice-aggregate-collect-2
+slice-aggregate-collect-2 c = search needs
+
+collect-requires : tie.Need-collect-requires
+collect-requires c κs = search needs
+
+array-share-prefix-words : tie.Need-array-share-prefix-words
+array-share-prefix-words c = search needs
 
 slice-aggregate-repeated : tie.Need-slice-aggregate-repeated
-slice-aggregate-repeated c = search needs
+slice-aggregate-repeated c = sym (length-take-le _ _ (c .before .before .before .collect .ensures))
 
 rounds-requires : tie.Need-rounds-requires
 rounds-requires c κs = search needs
 
 repeated-requires : tie.Need-repeated-requires
-unfolding answerOf
-repeated-requires c κs = rw (c .before .before .answered .ensures) (c .before .before .before .before .before .load .ensures .1)
-
-unsigned-requires : tie.Need-unsigned-requires
-unsigned-requires c κs = search needs
-
-cast-print-decimal : tie.Need-cast-print-decimal
-cast-print-decimal c = search needs
+repeated-requires c κs = search needs
 
 print-decimal-requires : tie.Need-print-decimal-requires
 print-decimal-requires c κs = search needs
@@ -57,18 +66,21 @@ pub main-spec : {M : Type 1} → statement M
 main-spec =
     tie.close
     (tie.spec
-    slice-aggregate-arg
-    arg-requires
+    slice-aggregate-read-full
+    read-full-requires
+    array-share-prefix-table
     slice-aggregate-load
     load-requires
-    array-read-events-of
-    events-of-requires
-    answered-requires
+    slice-aggregate-read-full-2
+    read-full-requires-2
+    array-share-prefix-log
+    slice-aggregate-collect
+    slice-aggregate-collect-2
+    collect-requires
+    array-share-prefix-words
     slice-aggregate-repeated
     rounds-requires
     repeated-requires
-    unsigned-requires
-    cast-print-decimal
     print-decimal-requires
     slice-aggregate-write-all
     write-all-requires

@@ -1,32 +1,35 @@
--- `bench_step::repeated` keeps the state valid, and the rounds that are left fall.
-use native.Mathlib.Omega.{arith}
-use Rattle.panel.specs.Valid.{Good}
+-- `bench_step::repeated` is safe and ends. The invariant: the state is valid, as `run_once` promises. The measure is the number of runs left.
+use borrow.Author.Needs.{needs}
+use Rattle.commands.specs.State.{stateOf}
+use Rattle.commands.specs.Valid.{Good}
 use Rattle.bench_step.proofs.repeated.Statement.{statement}
 use Rattle.bench_step.proofs.repeated.Tie as tie
 
 abbrev Inv-loop : tie.InvT-loop
-Inv-loop words rounds last₀ left₀ last left = Good (last .state)
+Inv-loop words rounds table₀ x₀ left₀ table x left = Good (stateOf table (x .live))
 
 abbrev μ-loop : tie.MeasureT-loop
-μ-loop words rounds last₀ left₀ last left = left
+μ-loop words rounds table₀ x₀ left₀ table x left = left
 
 loop-holds : tie.Need-loop-holds Inv-loop μ-loop
-loop-holds c = c .before .pre
+loop-holds c = search needs
 
-run-on-requires : tie.Need-run-on-requires Inv-loop μ-loop
-run-on-requires c κs = c .before .loop .inv
+run-once-requires : tie.Need-run-once-requires Inv-loop μ-loop
+run-once-requires c κs = search needs
 
 sub-left : tie.Need-sub-left Inv-loop μ-loop
-sub-left c = omega arith
+sub-left c = search needs
 
 loop-less : tie.Need-loop-less Inv-loop μ-loop
-loop-less c = omega arith
+loop-less c = search needs
 
 loop-again : tie.Need-loop-again Inv-loop μ-loop
-loop-again c = c .run-on .ensures .1
+loop-again c = search needs
 
 returns : tie.Need-returns Inv-loop μ-loop
-returns c = c .before .loop .inv
+returns c = search needs
 
 pub repeated-spec : {M : Type 1} → statement M
-repeated-spec = tie.close (tie.spec Inv-loop μ-loop loop-holds run-on-requires sub-left loop-less loop-again returns)
+repeated-spec =
+    tie.close
+    (tie.spec Inv-loop μ-loop loop-holds run-once-requires sub-left loop-less loop-again returns)

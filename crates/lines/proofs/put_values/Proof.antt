@@ -1,8 +1,7 @@
 -- `lines::put_values` meets its contract: the three fields stand one behind the other.
-use mathlib.Core.Path.{_≡_}
 use native.Mathlib.Omega.{arith}
 use mir.Syntax.{w32}
-use Rattle.integers.specs.Int.{bk}
+use Rattle.integers.specs.Int.{back-at}
 use Rattle.lines.specs.Lines.{space}
 use Rattle.lines.specs.LineLaws.{field-at-most-20, fields-at-most-40}
 use Rattle.lines.specs.PutLaws.{put-both, put-room}
@@ -35,13 +34,13 @@ same-length c = search needs
 returns : tie.Need-returns
 unfolding valueFields
 returns c =
-    let a = c .before .before .before .before .before .before .before .before .before .before .before .before .before .before .before .before .args .a in
-    let r : bk w32 (a .result) ≡ a .result = search needs in
-    let s : bk w32 (a .shown) ≡ a .shown = search needs in
+    let l = c .before .before .before .before .before .before .before .before .before .before .before .before .before .before .before .before .before .args .l in
+    let r = back-at w32 (l .reading .result) (c .before .before .before .before .before .before .before .before .before .before .before .before .before .struct-told .given .0 .1) in
+    let s = back-at w32 (l .shown) (c .before .before .before .before .before .before .before .before .struct-told2 .given .1 .1 .1 .1 .0 .1) in
     let p1 = rw r at (c .before .before .before .before .before .before .before .before .before .before .before .before .put-word .ensures) in
     let p2 = rw s at (c .before .before .before .before .before .before .before .put-word2 .ensures) in
     let p3 = rw (c .before .before .before .error-number .ensures) at (c .before .before .put-natural .ensures) in
-    put-both (put-both p1 p2 (omega (arith, field-at-most-20 (a .result) space))) p3 (omega (arith, fields-at-most-40 (a .result) (a .shown) space))
+    put-both (put-both p1 p2 (omega (arith, field-at-most-20 (l .reading .result) space))) p3 (omega (arith, fields-at-most-40 (l .reading .result) (l .shown) space))
 
 pub put-values-spec : {M : Type 1} → statement M
 put-values-spec =

@@ -1,7 +1,7 @@
 -- `logrun::word` meets its contract: behind a refusal nothing happens, and else what the log's word gives picks the case.
 use borrow.Author.Tests.{eq-eqb, ne-eqb}
 use Rattle.lines.specs.PutLaws.{put-none}
-use Rattle.logrun.specs.Progress.{afterTaken, textTaken}
+use Rattle.logrun.specs.Progress.{progressOf, afterTaken, textTaken}
 use Rattle.logrun.specs.ProgressLaws.{word-ready, fed-ended, text-ended, fed-by, text-by}
 use borrow.Author.Needs.{needs}
 use Rattle.logrun.proofs.word.Statement.{statement}
@@ -10,7 +10,7 @@ use Rattle.logrun.proofs.word.Tie as tie
 returns : tie.Need-returns
 returns c =
     let start = c .before .before .before in
-    let p = start .args .p in
+    let p = progressOf (start .args .t .now) (start .args .c) in
     let e = ne-eqb (p .refusal) 0 (c .if1 .taken) in
     (rw (fed-ended p (start .args .w) e), (rw (text-ended p (start .args .w) e) (put-none (start .args .out .now) (start .args .at)), start .pre .0))
 
@@ -40,13 +40,13 @@ same-length c = search needs
 
 returns-2 : tie.Need-returns-2
 returns-2 c =
-    let start = c .before .before .before .before .before .before .before .before .before .before .before .before .before in
-    let p = start .args .p in
+    let start = c .before .before .before .before .before .before .before .before .before .before .before .before .before .before in
+    let p = progressOf (start .args .t .now) (start .args .c) in
     let w = start .args .w in
-    let s = c .before .before .before .before .before .before .before .before .word in
-    let e = eq-eqb (p .refusal) 0 (c .before .before .before .before .before .before .before .before .before .before .if1 .left) in
-    let f = fed-by p w (s .result) _ e (s .ensures) (c .before .before .before .before .before .taken .given .1) in
-    let g = text-by p w (s .result) _ e (s .ensures) (c .before .before .before .before .before .taken .given .1) in
+    let s = c .before .before .before .before .before .before .before .before .before .word in
+    let e = eq-eqb (p .refusal) 0 (c .before .before .before .before .before .before .before .before .before .before .before .if1 .left) in
+    let f = fed-by p w (s .result) _ e (s .ensures) (c .before .before .before .before .before .before .taken .given .1) in
+    let g = text-by p w (s .result) _ e (s .ensures) (c .before .before .before .before .before .before .taken .given .1) in
     let v = c .before .before .event .ensures in
     (rw f (v .0), (rw g (v .1), rw (v .0, ← f) (word-ready (start .pre .0) w)))
 
@@ -54,7 +54,7 @@ returns-3 : tie.Need-returns-3
 unfolding afterTaken textTaken
 returns-3 c =
     let start = c .before .before .before .before .before .before .before .before .before in
-    let p = start .args .p in
+    let p = progressOf (start .args .t .now) (start .args .c) in
     let w = start .args .w in
     let s = c .before .before .before .before .word in
     let e = eq-eqb (p .refusal) 0 (c .before .before .before .before .before .before .if1 .left) in
@@ -66,7 +66,7 @@ returns-4 : tie.Need-returns-4
 unfolding afterTaken textTaken
 returns-4 c =
     let start = c .before .before .before .before .before .before .before .before .before .before in
-    let p = start .args .p in
+    let p = progressOf (start .args .t .now) (start .args .c) in
     let w = start .args .w in
     let s = c .before .before .before .before .before .word in
     let e = eq-eqb (p .refusal) 0 (c .before .before .before .before .before .before .before .if1 .left) in

@@ -7,19 +7,16 @@ use Rattle.panel.specs.Step.{answerOf}
 use Rattle.panel.proofs.answered.Statement.{statement}
 use Rattle.panel.proofs.answered.Tie as tie
 
-preselections-requires : tie.Need-preselections-requires
-preselections-requires c κs = search needs
-
 outputs-requires : tie.Need-outputs-requires
 outputs-requires c κs = search needs
 
 returns : tie.Need-returns
 unfolding answerOf
 returns c = let b = c .before .before .before in
-    let s = b .before .before .before .before .before .args .t1 in
-    let r : bk w32 (s .reading .result) ≡ s .reading .result = search needs in
-    let d : bk w32 (s .shown) ≡ s .shown = search needs in
-    rw (r, d, b .outputs .ensures, b .before .preselections .ensures)
+    let l = b .before .before .before .before .before .args .t1 .live in
+    let r : bk w32 (l .reading .result) ≡ l .reading .result = search needs in
+    let d : bk w32 (l .shown) ≡ l .shown = search needs in
+    rw (r, d, b .outputs .ensures)
 
 pub answered-spec : {M : Type 1} → statement M
-answered-spec = tie.close (tie.spec preselections-requires outputs-requires returns)
+answered-spec = tie.close (tie.spec outputs-requires returns)

@@ -2,7 +2,7 @@
 use borrow.Author.Needs.{needs}
 use Rattle.parameters.specs.Valid.{load-valid}
 use Rattle.panel.specs.Load.{loadedOf}
-use Rattle.panel.specs.ValidLaws.{good-fresh}
+use Rattle.commands.specs.CommandLaws.{good-fresh}
 use Rattle.panel.proofs.load.Statement.{statement}
 use Rattle.panel.proofs.load.Tie as tie
 

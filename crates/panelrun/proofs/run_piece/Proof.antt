@@ -37,7 +37,9 @@ returns : tie.Need-returns
 returns c = search needs
 
 close-requires : tie.Need-close-requires
-close-requires c κs = search needs
+close-requires c κs =
+    let output = c .before .before .before .before .before .before .before .before in
+    omega (arith, output .output .given, output .before .before .before .before .before .before .before .before .before .before .pre .2)
 
 same-length-3 : tie.Need-same-length-3
 same-length-3 c = search needs

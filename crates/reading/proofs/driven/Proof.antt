@@ -1,10 +1,10 @@
--- `reading::driven` meets its contract: without an error the drive of the result, else off.
+-- `reading::driven` meets its contract: without an error the drive of the code, which fits its format, else off.
 use borrow.Author.Needs.{needs}
 use borrow.Author.Tests.{eq-eqb, ne-eqb}
-use mathlib.Core.Path.{_≡_, sym, _∙_}
-use mir.Syntax.{w32}
-use Rattle.integers.specs.Int.{bk, back-at}
-use Rattle.reading.specs.Reading.{driveAt}
+use mathlib.Core.Path.{sym, _∙_}
+use mir.Facts.{toZ-ofZ}
+use Rattle.analog.specs.CodeLaws.{code-fits}
+use Rattle.reading.specs.Reading.{codeAt, driveAt}
 use Rattle.reading.proofs.driven.Statement.{statement}
 use Rattle.reading.proofs.driven.Tie as tie
 
@@ -14,31 +14,23 @@ error-number-requires c κs = search needs
 number-requires : tie.Need-number-requires
 number-requires c κs = search needs
 
-word-requires : tie.Need-word-requires
-word-requires c κs = search needs
-
-word-requires-2 : tie.Need-word-requires-2
-word-requires-2 c κs = search needs
-
-drive-for-requires : tie.Need-drive-for-requires
-drive-for-requires c κs = search needs
+drive-of-requires : tie.Need-drive-of-requires
+unfolding codeAt
+drive-of-requires c κs =
+    let s = c .before .before .before in
+    rw (toZ-ofZ (s .fits .code), s .pre, c .number .ensures) (code-fits _ _ _ _)
 
 returns : tie.Need-returns
 unfolding driveAt
-returns c = let b = c .before .before in
-    let n = b .before .before in
-    let e = n .before .before .error-number in
-    let m = n .before .before .before .args .m in
-    let r : bk w32 (m .result) ≡ m .result = search needs in
+returns c =
+    let s = c .before .before .before .before in
+    let test = c .before .before in
     rw (
-      eq-eqb _ _ (sym (e .ensures) ∙ n .before .if1 .taken),
-      c .drive-for .ensures,
-      r,
-      back-at w32 (b .word2 .result) (b .word2 .ok),
-      back-at w32 (b .before .word .result) (b .before .word .ok),
-      b .word2 .ensures,
-      b .before .word .ensures,
-      n .number .ensures,
+      eq-eqb _ _ (sym (test .before .error-number .ensures) ∙ test .if1 .taken),
+      c .drive-of .ensures .0,
+      toZ-ofZ (s .fits .code),
+      s .pre,
+      c .before .number .ensures,
     )
 
 returns-2 : tie.Need-returns-2
@@ -47,12 +39,4 @@ returns-2 c = rw (ne-eqb _ _ (λ z. c .if1 .left (c .before .error-number .ensur
 
 pub driven-spec : {M : Type 1} → statement M
 driven-spec =
-    tie.close
-    (tie.spec
-    error-number-requires
-    number-requires
-    word-requires
-    word-requires-2
-    drive-for-requires
-    returns
-    returns-2)
+    tie.close (tie.spec error-number-requires number-requires drive-of-requires returns returns-2)

@@ -1,8 +1,8 @@
 -- `stored_runs::levels_of_8` is safe: the line ends within its buffer.
+use borrow.Author.Needs.{needs}
 use native.Mathlib.Omega.{arith}
 use Rattle.lines.specs.LineLaws.{longest, event-line-at-most}
 use Rattle.lines.specs.PutLaws.{put-within}
-use borrow.Author.Needs.{needs}
 use Rattle.stored_runs.proofs.levels_of_8.Statement.{statement}
 use Rattle.stored_runs.proofs.levels_of_8.Tie as tie
 
@@ -18,8 +18,8 @@ slice-aggregate-load c = search needs
 load-requires : tie.Need-load-requires
 load-requires c κs = search needs
 
-step-requires : tie.Need-step-requires
-step-requires c κs = search needs
+advance-requires : tie.Need-advance-requires
+advance-requires c κs = search needs
 
 slice-aggregate-event-line : tie.Need-slice-aggregate-event-line
 slice-aggregate-event-line c = search needs
@@ -44,7 +44,7 @@ levels-of-8-spec =
     heading-requires
     slice-aggregate-load
     load-requires
-    step-requires
+    advance-requires
     slice-aggregate-event-line
     event-line-requires
     slice-aggregate-write

@@ -1,71 +1,56 @@
--- `switching::tick_all` meets its contract. The invariant: the switches below k are ticked, the others as they were (`doneTo`).
-use mathlib.Core.Path.{_≡_, sym, _∙_}
-use Prim.Native.Nat.{_≤_, _-_}
-use native.Mathlib.Omega.{arith}
+-- `switching::tick_all` meets its contract: the four, one by one.
 use borrow.Author.Needs.{needs}
-use lib.ListN.{length, length-set}
-use Rattle.switching.specs.Switching.{freshSwitch, tickedOf}
-use Rattle.switching.specs.Each.{eachFrom}
-use Rattle.switching.specs.EachLaws.{doneTo, each-start, each-more, each-end}
+use mathlib.Core.Path.{_≡_}
+use lib.ListN.{length}
+use Rattle.switching.specs.EachLaws.{each-four}
+use Rattle.switching.specs.Switching.{freshSwitch}
 use Rattle.switching.proofs.tick_all.Statement.{statement}
 use Rattle.switching.proofs.tick_all.Tie as tie
 
-abbrev Inv-loop : tie.InvT-loop
-Inv-loop ms next₀ k₀ next k = (k ≤ 4) × (length next ≡ 4) × (eachFrom 0 (λ j. tickedOf ms) next₀ ≡ doneTo (λ j. tickedOf ms) next k)
+array-copy-out-ticked : tie.Need-array-copy-out-ticked
+array-copy-out-ticked c = search needs
 
-abbrev μ-loop : tie.MeasureT-loop
-μ-loop ms next₀ k₀ next k = 4 - k
-
-loop-holds : tie.Need-loop-holds Inv-loop μ-loop
-loop-holds c = (omega arith, search needs, each-start _ _)
-
-mul-ticked : tie.Need-mul-ticked Inv-loop μ-loop
-mul-ticked c = omega arith
-
-array-copy-out-ticked : tie.Need-array-copy-out-ticked Inv-loop μ-loop
-array-copy-out-ticked c = omega arith
-
-ticked-requires : tie.Need-ticked-requires Inv-loop μ-loop
+ticked-requires : tie.Need-ticked-requires
 ticked-requires c κs = search needs
 
-mul-next : tie.Need-mul-next Inv-loop μ-loop
-mul-next c = omega arith
+array-copy-out-ticked-2 : tie.Need-array-copy-out-ticked-2
+array-copy-out-ticked-2 c = search needs
 
-array-set-from-next : tie.Need-array-set-from-next Inv-loop μ-loop
-array-set-from-next c = omega arith
+ticked-requires-2 : tie.Need-ticked-requires-2
+ticked-requires-2 c κs = search needs
 
-add-k : tie.Need-add-k Inv-loop μ-loop
-add-k c = omega arith
+array-copy-out-ticked-3 : tie.Need-array-copy-out-ticked-3
+array-copy-out-ticked-3 c = search needs
 
-loop-less : tie.Need-loop-less Inv-loop μ-loop
-loop-less c = omega arith
+ticked-requires-3 : tie.Need-ticked-requires-3
+ticked-requires-3 c κs = search needs
 
-loop-again : tie.Need-loop-again Inv-loop μ-loop
-loop-again c =
-    let l = c .before .before .before .loop in (
-      omega arith,
-      length-set (l .next) (l .k) (c .ticked .result) ∙ l .inv .1,
-      l .inv .2 ∙ each-more _ (l .next) (l .k) freshSwitch (c .ticked .result) (omega arith) (c .ticked .ensures),
-    )
+array-copy-out-ticked-4 : tie.Need-array-copy-out-ticked-4
+array-copy-out-ticked-4 c = search needs
 
-returns : tie.Need-returns Inv-loop μ-loop
+ticked-requires-4 : tie.Need-ticked-requires-4
+ticked-requires-4 c κs = search needs
+
+four : (c : tie.Start) → length (c .args .t2) ≡ 4
+four c = search needs
+
+returns : tie.Need-returns
 returns c =
-    let l = c .before .loop in
-    sym (l .inv .2 ∙ each-end _ (l .next) (l .k) (omega arith))
+    let third = c .before .before in
+    let second = third .before .before in
+    let first = second .before .before in
+    each-four _ (first .before .before .args .t2) freshSwitch (four (first .before .before)) (first .ticked .ensures) (second .ticked2 .ensures) (third .ticked3 .ensures) (c .ticked4 .ensures)
 
 pub tick-all-spec : {M : Type 1} → statement M
 tick-all-spec =
     tie.close
     (tie.spec
-    Inv-loop
-    μ-loop
-    loop-holds
-    mul-ticked
     array-copy-out-ticked
     ticked-requires
-    mul-next
-    array-set-from-next
-    add-k
-    loop-less
-    loop-again
+    array-copy-out-ticked-2
+    ticked-requires-2
+    array-copy-out-ticked-3
+    ticked-requires-3
+    array-copy-out-ticked-4
+    ticked-requires-4
     returns)

@@ -1,71 +1,56 @@
--- `switching::unlock_all` meets its contract. The invariant: the switches below k are unlocked, the others as they were (`doneTo`).
-use mathlib.Core.Path.{_≡_, sym, _∙_}
-use Prim.Native.Nat.{_≤_, _-_}
-use native.Mathlib.Omega.{arith}
+-- `switching::unlock_all` meets its contract: the four, one by one.
 use borrow.Author.Needs.{needs}
-use lib.ListN.{length, length-set}
-use Rattle.switching.specs.Switching.{freshSwitch, unlockedOf}
-use Rattle.switching.specs.Each.{eachFrom}
-use Rattle.switching.specs.EachLaws.{doneTo, each-start, each-more, each-end}
+use mathlib.Core.Path.{_≡_}
+use lib.ListN.{length}
+use Rattle.switching.specs.EachLaws.{each-four}
+use Rattle.switching.specs.Switching.{freshSwitch}
 use Rattle.switching.proofs.unlock_all.Statement.{statement}
 use Rattle.switching.proofs.unlock_all.Tie as tie
 
-abbrev Inv-loop : tie.InvT-loop
-Inv-loop next₀ k₀ next k = (k ≤ 4) × (length next ≡ 4) × (eachFrom 0 (λ j. unlockedOf) next₀ ≡ doneTo (λ j. unlockedOf) next k)
+array-copy-out-unlocked : tie.Need-array-copy-out-unlocked
+array-copy-out-unlocked c = search needs
 
-abbrev μ-loop : tie.MeasureT-loop
-μ-loop next₀ k₀ next k = 4 - k
-
-loop-holds : tie.Need-loop-holds Inv-loop μ-loop
-loop-holds c = (omega arith, search needs, each-start _ _)
-
-mul-unlocked : tie.Need-mul-unlocked Inv-loop μ-loop
-mul-unlocked c = omega arith
-
-array-copy-out-unlocked : tie.Need-array-copy-out-unlocked Inv-loop μ-loop
-array-copy-out-unlocked c = omega arith
-
-unlocked-requires : tie.Need-unlocked-requires Inv-loop μ-loop
+unlocked-requires : tie.Need-unlocked-requires
 unlocked-requires c κs = search needs
 
-mul-next : tie.Need-mul-next Inv-loop μ-loop
-mul-next c = omega arith
+array-copy-out-unlocked-2 : tie.Need-array-copy-out-unlocked-2
+array-copy-out-unlocked-2 c = search needs
 
-array-set-from-next : tie.Need-array-set-from-next Inv-loop μ-loop
-array-set-from-next c = omega arith
+unlocked-requires-2 : tie.Need-unlocked-requires-2
+unlocked-requires-2 c κs = search needs
 
-add-k : tie.Need-add-k Inv-loop μ-loop
-add-k c = omega arith
+array-copy-out-unlocked-3 : tie.Need-array-copy-out-unlocked-3
+array-copy-out-unlocked-3 c = search needs
 
-loop-less : tie.Need-loop-less Inv-loop μ-loop
-loop-less c = omega arith
+unlocked-requires-3 : tie.Need-unlocked-requires-3
+unlocked-requires-3 c κs = search needs
 
-loop-again : tie.Need-loop-again Inv-loop μ-loop
-loop-again c =
-    let l = c .before .before .before .loop in (
-      omega arith,
-      length-set (l .next) (l .k) (c .unlocked .result) ∙ l .inv .1,
-      l .inv .2 ∙ each-more _ (l .next) (l .k) freshSwitch (c .unlocked .result) (omega arith) (c .unlocked .ensures),
-    )
+array-copy-out-unlocked-4 : tie.Need-array-copy-out-unlocked-4
+array-copy-out-unlocked-4 c = search needs
 
-returns : tie.Need-returns Inv-loop μ-loop
+unlocked-requires-4 : tie.Need-unlocked-requires-4
+unlocked-requires-4 c κs = search needs
+
+four : (c : tie.Start) → length (c .args .t1) ≡ 4
+four c = search needs
+
+returns : tie.Need-returns
 returns c =
-    let l = c .before .loop in
-    sym (l .inv .2 ∙ each-end _ (l .next) (l .k) (omega arith))
+    let third = c .before .before in
+    let second = third .before .before in
+    let first = second .before .before in
+    each-four _ (first .before .before .args .t1) freshSwitch (four (first .before .before)) (first .unlocked .ensures) (second .unlocked2 .ensures) (third .unlocked3 .ensures) (c .unlocked4 .ensures)
 
 pub unlock-all-spec : {M : Type 1} → statement M
 unlock-all-spec =
     tie.close
     (tie.spec
-    Inv-loop
-    μ-loop
-    loop-holds
-    mul-unlocked
     array-copy-out-unlocked
     unlocked-requires
-    mul-next
-    array-set-from-next
-    add-k
-    loop-less
-    loop-again
+    array-copy-out-unlocked-2
+    unlocked-requires-2
+    array-copy-out-unlocked-3
+    unlocked-requires-3
+    array-copy-out-unlocked-4
+    unlocked-requires-4
     returns)

@@ -2,7 +2,7 @@
 use Prim.Native.Nat.{_-_}
 use native.Mathlib.Omega.{arith}
 use borrow.Author.Needs.{needs}
-use Rattle.panel.specs.Valid.{Good}
+use Rattle.commands.specs.Valid.{Good}
 use Rattle.recorded_answers.proofs.results.run_log.Statement.{statement}
 use Rattle.recorded_answers.proofs.results.run_log.Tie as tie
 

@@ -1,0 +1,15 @@
+-- `commands::state::fresh` meets its contract: four times the fresh switch.
+use borrow.Author.Needs.{needs}
+use Rattle.commands.specs.State.{freshOf}
+use Rattle.commands.proofs.state.fresh.Statement.{statement}
+use Rattle.commands.proofs.state.fresh.Tie as tie
+
+fresh-requires : tie.Need-fresh-requires
+fresh-requires c κs = search needs
+
+returns : tie.Need-returns
+unfolding freshOf
+returns c = rw (c .fresh .ensures)
+
+pub fresh-spec : {M : Type 1} → statement M
+fresh-spec = tie.close (tie.spec fresh-requires returns)

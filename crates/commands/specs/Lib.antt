@@ -1,0 +1,4 @@
+pub mod State
+pub mod Commands
+pub mod Valid
+pub mod CommandLaws
