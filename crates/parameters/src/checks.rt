@@ -118,14 +118,7 @@ pub fn frozen_by_edge(t: &[i32; 104], i: usize) -> bool
 pub fn freeze_on_edge(t: &[i32; 104]) -> bool
     ensures { λ r. ⌜ r ≡ freezeOnEdge (now (t .entry)) ⌝ }
 {
-    let mut i: usize = 0;
-    while i < 3 {
-        if frozen_by_edge(t, i) {
-            return true;
-        }
-        i += 1;
-    }
-    false
+    frozen_by_edge(t, 0) | frozen_by_edge(t, 1) | frozen_by_edge(t, 2)
 }
 
 // Whether preselections j + 1 and k + 1 aim at one output and differ in polarity.
@@ -149,28 +142,14 @@ pub fn differs_from(t: &[i32; 104], j: usize) -> bool
     requires { ⌜ j < 4 ⌝ }
     ensures { λ r. ⌜ r ≡ differsFrom (now (t .entry)) j ⌝ }
 {
-    let mut k: usize = 0;
-    while k < 4 {
-        if differs(t, j, k) {
-            return true;
-        }
-        k += 1;
-    }
-    false
+    differs(t, j, 0) | differs(t, j, 1) | differs(t, j, 2) | differs(t, j, 3)
 }
 
 // 9: two preselections on one output, polarities differ.
 pub fn polarities_differ(t: &[i32; 104]) -> bool
     ensures { λ r. ⌜ r ≡ polaritiesDiffer (now (t .entry)) ⌝ }
 {
-    let mut j: usize = 0;
-    while j < 4 {
-        if differs_from(t, j) {
-            return true;
-        }
-        j += 1;
-    }
-    false
+    differs_from(t, 0) | differs_from(t, 1) | differs_from(t, 2) | differs_from(t, 3)
 }
 
 // The first of the checks 3 to 9 that fails, 0 where none does.
