@@ -69,7 +69,7 @@ pub fn noted(x: Extremes, r: Reading) -> Extremes
 }
 
 // The last telegram read again under the table in force.
-pub fn reread(t: &[i32; 104], l: Live) -> Live
+fn reread(t: &[i32; 104], l: Live) -> Live
     requires { ⌜ Valid (now t) ⌝ }
     ensures { λ r. ⌜ stateOf (now (t .entry)) r ≡ rereadOf (stateOf (now (t .entry)) l) ⌝ }
 {
@@ -215,7 +215,7 @@ fn carry_out(action: u32, t: &mut [i32; 104], l: Live) -> Live
 }
 
 // A command: carried out, or refused with its number.
-pub fn command(action: u32, t: &mut [i32; 104], l: Live) -> Outcome
+fn command(action: u32, t: &mut [i32; 104], l: Live) -> Outcome
     requires { ⌜ Valid (now t) ⌝ }
     ensures { λ r. ⌜ leftBy (now (t .exit)) r ≡ commandOf action (stateOf (now (t .entry)) l) ⌝ }
 {
