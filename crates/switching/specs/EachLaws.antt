@@ -1,10 +1,33 @@
--- The laws of `eachFrom`: a list of four, and what stands at each place. Assumes nothing.
-use mathlib.Core.Path.{_≡_, refl, _∙_, ap}
-use mathlib.Core.List.{List, [], _∷_}
+-- The laws of `eachFrom`: the loop that changes the elements in place, one after the other, a list of four done at once, and what stands at each place then.
+-- Assumes nothing.
+use mathlib.Core.Path.{_≡_, refl, sym, _∙_, ap}
+use mathlib.Core.List.{List, [], _∷_, _++_, append-nil, append-assoc}
 use Prim.Native.Nat.{ℕ, zero, suc, _+_, _<_}
+use native.Mathlib.Numerals.{add-one}
 use native.Mathlib.Omega.{arith}
-use lib.ListN.{length, getD}
+use lib.ListN.{length, getD, set, take, drop}
+use lib.Seq.{drop-cons, take-suc-set, drop-set-lt, take-length, drop-length}
 use Rattle.switching.specs.Each.{eachFrom}
+
+-- how far the loop is: the elements below i are done, the others are as they were
+module _ {A : Type 0} (f : ℕ → A → A) (l : List A) where
+  unfoldable pub doneTo : ℕ → List A
+  doneTo i = take i l ++ eachFrom i f (drop i l)
+
+  pub each-start : eachFrom 0 f l ≡ doneTo 0
+  unfolding doneTo
+  each-start = refl
+
+  pub each-end : (n : ℕ) → length l ≡ n → doneTo n ≡ l
+  unfolding doneTo eachFrom
+  each-end n e = rw (← e, drop-length l, append-nil, take-length l)
+
+-- one more element is done
+pub each-more : {A : Type 0} (f : ℕ → A → A) (l : List A) (i : ℕ) (d v : A) → i < length l → v ≡ f i (getD l i d) → doneTo f l i ≡ doneTo f (set l i v) (i + 1)
+unfolding doneTo eachFrom
+each-more f l i d v h e =
+    rw (e, add-one, take-suc-set l i (f i (getD l i d)), drop-set-lt (suc i) l i (f i (getD l i d)) (omega arith), drop-cons l i d h)
+    (sym (append-assoc (take i l) (f i (getD l i d) ∷ []) (eachFrom (suc i) f (drop (suc i) l))))
 
 -- a list of four is done where each of its elements is
 pub each-four : {A : Type 0} (f : ℕ → A → A) (l : List A) (d : A) {a b c e : A} → length l ≡ 4 →

@@ -205,12 +205,14 @@ fn switched_at(ps: [Preselection; 4], r: i32, k: usize, s: Switch) -> Switch
 pub fn switch_all(ps: [Preselection; 4], r: i32, ss: [Switch; 4]) -> [Switch; 4]
     ensures { λ qs. ⌜ qs ≡ allSwitched ps r ss ⌝ }
 {
-    [
-        switched_at(ps, r, 0, ss[0]),
-        switched_at(ps, r, 1, ss[1]),
-        switched_at(ps, r, 2, ss[2]),
-        switched_at(ps, r, 3, ss[3]),
-    ]
+    let mut next = ss;
+    let mut k: usize = 0;
+    while k < 4 {
+        let q = switched_at(ps, r, k, next[k]);
+        next[k] = q;
+        k += 1;
+    }
+    next
 }
 
 // The four switches after a tick.

@@ -1,63 +1,74 @@
--- `switching::switch_all` meets its contract: the four, one by one.
+-- `switching::switch_all` meets its contract. The invariant: the switches below k are switched, the others as they were (`doneTo`).
+use mathlib.Core.Path.{_≡_, sym, _∙_}
+use Prim.Native.Nat.{_≤_, _-_}
+use native.Mathlib.Omega.{arith}
 use borrow.Author.Needs.{needs}
-use mathlib.Core.Path.{_≡_}
-use lib.ListN.{length}
+use lib.ListN.{length, length-set}
+use mir.Syntax.{w32}
+use mir.Val.{toZ}
 use mir.Facts.{toZ-ofZ}
-use Rattle.switching.specs.EachLaws.{each-four}
-use Rattle.switching.specs.Switching.{freshSwitch}
+use Rattle.switching.specs.Switching.{freshSwitch, switchedAt}
+use Rattle.switching.specs.Each.{eachFrom}
+use Rattle.switching.specs.EachLaws.{doneTo, each-start, each-more, each-end}
 use Rattle.switching.proofs.switch_all.Statement.{statement}
 use Rattle.switching.proofs.switch_all.Tie as tie
 
-array-copy-out-switched-at : tie.Need-array-copy-out-switched-at
-array-copy-out-switched-at c = search needs
+abbrev Inv-loop : tie.InvT-loop
+Inv-loop ps r next₀ k₀ next k = (k ≤ 4) × (length next ≡ 4) × (eachFrom 0 (switchedAt ps (toZ w32 r)) next₀ ≡ doneTo (switchedAt ps (toZ w32 r)) next k)
 
-switched-at-requires : tie.Need-switched-at-requires
-switched-at-requires c κs = search needs
+abbrev μ-loop : tie.MeasureT-loop
+μ-loop ps r next₀ k₀ next k = 4 - k
 
-array-copy-out-switched-at-2 : tie.Need-array-copy-out-switched-at-2
-array-copy-out-switched-at-2 c = search needs
+loop-holds : tie.Need-loop-holds Inv-loop μ-loop
+loop-holds c = (omega arith, search needs, each-start _ _)
 
-switched-at-requires-2 : tie.Need-switched-at-requires-2
-switched-at-requires-2 c κs = search needs
+mul-switched-at : tie.Need-mul-switched-at Inv-loop μ-loop
+mul-switched-at c = omega arith
 
-array-copy-out-switched-at-3 : tie.Need-array-copy-out-switched-at-3
-array-copy-out-switched-at-3 c = search needs
+array-copy-out-switched-at : tie.Need-array-copy-out-switched-at Inv-loop μ-loop
+array-copy-out-switched-at c = omega arith
 
-switched-at-requires-3 : tie.Need-switched-at-requires-3
-switched-at-requires-3 c κs = search needs
+switched-at-requires : tie.Need-switched-at-requires Inv-loop μ-loop
+switched-at-requires c κs = omega arith
 
-array-copy-out-switched-at-4 : tie.Need-array-copy-out-switched-at-4
-array-copy-out-switched-at-4 c = search needs
+mul-next : tie.Need-mul-next Inv-loop μ-loop
+mul-next c = omega arith
 
-switched-at-requires-4 : tie.Need-switched-at-requires-4
-switched-at-requires-4 c κs = search needs
+array-set-from-next : tie.Need-array-set-from-next Inv-loop μ-loop
+array-set-from-next c = omega arith
 
-four : (c : tie.Start) → length (c .args .t3) ≡ 4
-four c = search needs
+add-k : tie.Need-add-k Inv-loop μ-loop
+add-k c = omega arith
 
-returns : tie.Need-returns
+loop-less : tie.Need-loop-less Inv-loop μ-loop
+loop-less c = omega arith
+
+loop-again : tie.Need-loop-again Inv-loop μ-loop
+loop-again c =
+    let l = c .before .before .before .loop in (
+      omega arith,
+      length-set (l .next) (l .k) (c .switched-at .result) ∙ l .inv .1,
+      l .inv .2 ∙ each-more _ (l .next) (l .k) freshSwitch (c .switched-at .result) (omega arith) (c .switched-at .ensures),
+    )
+
+returns : tie.Need-returns Inv-loop μ-loop
 returns c =
-    let third = c .before .before in
-    let second = third .before .before in
-    let first = second .before .before in
-    let start = first .before .before in
-    let r = toZ-ofZ (start .fits .r) in
-    each-four _ (start .args .t3) freshSwitch (four start)
-    (rw r at (first .switched-at .ensures))
-    (rw r at (second .switched-at2 .ensures))
-    (rw r at (third .switched-at3 .ensures))
-    (rw r at (c .switched-at4 .ensures))
+    let l = c .before .loop in
+    rw (← toZ-ofZ {w = w32} (c .before .before .fits .r)) (sym (l .inv .2 ∙ each-end _ (l .next) (l .k) (omega arith)))
 
 pub switch-all-spec : {M : Type 1} → statement M
 switch-all-spec =
     tie.close
     (tie.spec
+    Inv-loop
+    μ-loop
+    loop-holds
+    mul-switched-at
     array-copy-out-switched-at
     switched-at-requires
-    array-copy-out-switched-at-2
-    switched-at-requires-2
-    array-copy-out-switched-at-3
-    switched-at-requires-3
-    array-copy-out-switched-at-4
-    switched-at-requires-4
+    mul-next
+    array-set-from-next
+    add-k
+    loop-less
+    loop-again
     returns)
