@@ -27,7 +27,7 @@ offset (suc (suc k)) = 4
 abbrev pub analogValue : ℕ → ℤ → Frac
 analogValue format code = frac (code *ℤ pos (factor format) +ℤ pos (offset format * divisor format)) (divisor format)
 
--- Analog value, "with a 32-bit float": a float number as a float, and the float steps in their order. Formats 0 and 1 add nothing.
+-- Analog value, "with a 32-bit float": a whole number as a float, and the float steps in their order. Formats 0 and 1 add nothing.
 abbrev pub float : ℤ → Float
 float z = ofInt binary32 z
 
@@ -42,7 +42,7 @@ floatOf zero code = quotientOf zero code
 floatOf (suc zero) code = quotientOf (suc zero) code
 floatOf (suc (suc k)) code = add binary32 (quotientOf (suc (suc k)) code) (float (pos (offset (suc (suc k)))))
 
--- Analog value, "None of these float steps rounds": each step is exactly its float-number fraction
+-- Analog value, "None of these float steps rounds": each step is exactly its whole-number fraction
 pub record Unrounded (format : ℕ) (code : ℤ) : Type 0 where
   pub cast : Is (float code) code 1
   pub product : Is (productOf format code) (code *ℤ pos (factor format)) 1

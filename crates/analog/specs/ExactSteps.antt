@@ -1,4 +1,4 @@
--- Where a step of float arithmetic rounds nothing: its exact result is a float number below 2 ^ prec over a power of two that the format
+-- Where a step of float arithmetic rounds nothing: its exact result is a whole number below 2 ^ prec over a power of two that the format
 -- reaches. `round-at` says so of rounding, the four `-exact` laws of each step, and the rest of z * k / 2 ^ t + b / 2 ^ t. Assumes nothing.
 use mathlib.Core.Path.{_≡_, refl, sym, ap, ap₂, _∙_, subst}
 use Prim.Native.Nat.{ℕ, zero, suc, _+_, _-_, _*_, _^_, _≤_, _<_, zero-le}

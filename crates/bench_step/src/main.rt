@@ -1,6 +1,7 @@
-// Runs the events of a log through the step again and again, for bench/run to time, and prints a sum over all answers.
+// Runs the events of a log through `panel::advance` again and again, for bench/run to time, and prints a sum over all answers.
 // Standard input: an input of panelrun with at most 8,192 words of log. Argument: how often the log is run.
-// Uses `logrun` and `events` to read the input, `panel` for the steps, and `runs` for the words that stand for events.
+// Uses `logrun` and `events` to read the input, `panel` for the steps on the state of `commands`, `runs` for the words that stand for events, `measurement` and `analog` for error and drive,
+// `decimal` for the argument, and `os`, `io` and `libc` to read and write.
 use analog::Drive;
 use commands::state::Live;
 use commands::state::Outcome;

@@ -125,7 +125,7 @@ onRise c = eqb c 1 || eqb c 2
 unfoldable pub actsOn : ℕ → Bool → Bool → Bool
 actsOn c was is = cond (onRise c) (not was && is) (was && not is)
 
--- whether a change of levels makes input i + 1 act, and of those in a state
+-- whether going from levels `was` to `l` makes input i + 1 act; and the same from the levels of a state
 abbrev pub edgeIn : List ℤ → ℕ → ℕ → ℕ → Bool
 edgeIn t was l i = actsOn (config t i) (highAt was i) (highAt l i)
 

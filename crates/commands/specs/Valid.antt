@@ -1,5 +1,5 @@
 -- The validity of a state, which every step asks for and promises again: its table is valid, and its result is from −Z to Z.
--- It is the one `requires` of the public functions.
+-- `commands::act`, `panel::advance` and `panel::step` require it, and nothing else.
 use Rattle.integers.specs.Limit.{Z}
 use Rattle.integers.specs.Int.{Within}
 use Rattle.parameters.specs.Valid.{Valid}

@@ -1,5 +1,5 @@
 // The commands of the three inputs on a panel's state: each acts on what the earlier ones left, and a refused one changes nothing.
-// The table is changed in place. Uses `parameters` for the slots, `reading` for the result worked out again, and `switching` for the locks.
+// The table is changed in place. Uses `parameters` for the slots, `reading` for the result worked out again, `measurement` for the error's number, and `switching` for the locks.
 pub mod state; // state.rt: the state of a panel
 
 use parameters::number;
@@ -20,7 +20,7 @@ ghost use Rattle.commands.specs.State.{stateOf};
 ghost use Rattle.commands.specs.Commands.{errorIn, notedOf, rereadOf, leftBy, resetRefusal, resetOf, locksCleared, extremesAt, extremesCleared, isTeach, teachRefusal, refusalOf, carriedOut, commandOf, highAt, onRise, actsOn, edgeIn, firstNote, inputActs, commandsOf};
 ghost use Rattle.commands.specs.Valid.{Good};
 
-// The lower and the higher of two results.
+// The lower of two results.
 fn lower(a: i32, b: i32) -> i32
     ensures { λ r. ⌜ r ≡ cond (ltZ a b) a b ⌝ }
 {
@@ -30,6 +30,7 @@ fn lower(a: i32, b: i32) -> i32
     b
 }
 
+// The higher of two results.
 fn higher(a: i32, b: i32) -> i32
     ensures { λ r. ⌜ r ≡ cond (ltZ b a) a b ⌝ }
 {
@@ -125,11 +126,11 @@ fn clear_locks(l: Live) -> Live
     state::with_switches(l, switching::unlock_all(switches))
 }
 
-// Both extremes at a result, or none.
-fn extremes_at(any: bool, error: u32, result: i32) -> Extremes
-    ensures { λ x. ⌜ x ≡ extremesAt any error result ⌝ }
+// Least and greatest both at a result, or none before the first telegram or under an error.
+fn extremes_at(seen: bool, error: u32, result: i32) -> Extremes
+    ensures { λ x. ⌜ x ≡ extremesAt seen error result ⌝ }
 {
-    if !any {
+    if !seen {
         return Extremes {
             any: false,
             least: 0,

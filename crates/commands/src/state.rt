@@ -1,4 +1,5 @@
 // The state of a panel: the table in force and the live values beside it; its fresh state, and live values set anew.
+// Uses the structs and enums of `reading`, `measurement`, `analog` and `switching`.
 use reading::Reading;
 use switching::Switch;
 ghost use mathlib.Core.Path.{_≡_};

@@ -1,1 +1,2 @@
+-- The modules that this crate's proofs share.
 pub mod Mask

@@ -92,7 +92,7 @@ fn keep(upper: u16) -> Step
     }
 }
 
-// Whether a half is out of order: a lower half with no upper half before it, or another word after an upper half.
+// Whether a word is out of order: a lower half with no upper half before it, or any other word after an upper half.
 fn out_of_order(waiting: bool, w: u32) -> bool
     ensures { λ r. ⌜ r ≡ outOfOrder waiting w ⌝ }
 {

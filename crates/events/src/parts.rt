@@ -1,4 +1,4 @@
-// The parts of a log word. Bits are numbered 31 to 0.
+// The parts of a log word. Bits are numbered 31 to 0. Uses nothing.
 ghost use mathlib.Core.Path.{_≡_};
 ghost use Prim.Native.Nat.{_≤_};
 ghost use Rattle.events.specs.Words.{bitsOf, kindOf, reservedSet, msOf, levelsOf, halfOf, telegramOf};

@@ -1,6 +1,7 @@
--- What a choice by a test gives: the goal for each outcome, with what the outcome says. Assumes nothing.
+-- What a choice by a test gives: the goal for each outcome, with what the outcome says; and whether some number passes a test. Assumes nothing.
 use mathlib.Core.Path.{_≡_, refl, sym, subst}
-use mathlib.Core.Bool.{Bool, true, false, not, cond}
+use mathlib.Core.Bool.{Bool, true, false, not, cond, _||_}
+use Prim.Native.Nat.{ℕ, zero, suc}
 use lib.Dec.{T}
 
 -- a goal about the value chosen
@@ -36,3 +37,8 @@ true-is c e = subst T (sym e) tt
 
 pub false-is : (c : Bool) → c ≡ false → T (not c)
 false-is c e = subst (λ (b : Bool). T (not b)) (sym e) tt
+
+-- some number below n passes the test
+unfoldable pub some : ℕ → (ℕ → Bool) → Bool
+some zero f = false
+some (suc n) f = some n f || f n

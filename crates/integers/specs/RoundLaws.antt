@@ -1,4 +1,4 @@
--- The laws of `roundDiv` and `floorMod`. Assumes nothing.
+-- The laws of `roundDiv`: nearest, odd, monotone, only, half. Assumes nothing.
 use Prim.Native.Nat.{ℕ, zero, suc, _+_, _-_, _*_, _/_, _%_, _≤_, _<_}
 use mathlib.Core.Path.{_≡_, refl, sym, ap, _∙_}
 use native.Mathlib.Omega.{arith}

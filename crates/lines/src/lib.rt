@@ -1,5 +1,5 @@
 // The lines that panelrun prints, each put into a buffer that the caller lends, at a place, with the place behind it as the answer.
-// Uses `decimal` for numbers, and `panel`, `commands` and `events` for what a line tells.
+// Uses `decimal` for numbers, and `panel`, `commands`, `events`, `measurement` and `analog` for what a line tells.
 use analog::Drive;
 use commands::state::Live;
 use commands::state::Outcome;

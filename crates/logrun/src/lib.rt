@@ -1,4 +1,4 @@
-// A log run to its lines, a word or a piece at a time: the table from its bytes, the events stepped, their lines put into a lent buffer.
+// A log run to its lines, a piece at a time: the table from its bytes, the events stepped, their lines put into a lent buffer.
 // Uses `events` for the log's words, `panel` for the steps on the state of `commands`, and `lines` for what is printed.
 use commands::state::Live;
 use commands::state::State;
@@ -153,7 +153,7 @@ pub fn open(bytes: &[u8], out: &mut [u8]) -> Opened
     }
 }
 
-// The count after one more event.
+// The count after one more event; it stays at the largest number that is printed.
 fn next_count(n: u64) -> u64
     ensures { λ r. ⌜ r ≡ counted n ⌝ }
 {

@@ -60,7 +60,7 @@ fourQuadrants (p ∷ ps) q = cond (before q (p .x)) (whole (p .y)) (rightOf p ps
 unfoldable pub oneQuadrant : List Point → Frac → Frac
 oneQuadrant ps q = cond (nonNeg (q .num)) (fourQuadrants ps q) (minus (fourQuadrants ps (minus q)))
 
--- L by the mode of slot 13: 0 off, 1 one quadrant, 2 four
+-- L by the mode of linearization: 0 off, 1 one quadrant, 2 four
 unfoldable pub curve : ℕ → List Point → Frac → Frac
 curve zero ps q = q
 curve (suc zero) ps q = oneQuadrant ps q

@@ -1,4 +1,4 @@
-// From a position to the result: direction, offset, round loop, scaling, linearization and the range error.
+// From a position to the result: direction, offset, round loop, scaling, linearization and the errors.
 // Uses `integers` for the rounding division and the remainder; knows plain numbers and the points' words, no slots.
 ghost use mathlib.Core.Path.{_≡_};
 ghost use Prim.Native.Nat.{_+_, _*_, _^_, _≤_, _<_};

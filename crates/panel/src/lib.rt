@@ -1,5 +1,6 @@
 // The panel: the step that an event takes its state through, and loading.
-// Uses `commands` for the state and the actions of the inputs, `events`, `parameters`, `settings`, `reading` and `switching`.
+// Uses `commands` for the state and the actions of the inputs, `events`, `parameters`, `settings`, `reading` and `switching`,
+// and the error and drive enums of `measurement` and `analog`.
 use analog::Drive;
 use commands::state;
 use commands::state::Live;

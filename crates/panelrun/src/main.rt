@@ -76,7 +76,7 @@ fn run_piece(p: Progress, input: &mut [u8], output: &mut [u8]) -> Turn
     }
 }
 
-// The turns are counted down, from a number that no log uses up.
+// Runs the log to its end, a piece a turn. The turns are counted down from a number that no log uses up.
 fn run(p: Progress)
     requires { ⌜ Ready p ⌝ }
 {

@@ -10,7 +10,8 @@ use lib.Signed.{leZ}
 use Rattle.parameters.specs.declared.Loaded.{Loaded}
 use Rattle.parameters.specs.Rows.{lowestOut, defaultTable}
 use Rattle.parameters.specs.Slots.{resolution, highBit, lowBit, errorBit, linearization, analogStart, analogEnd, target, polarity, action, config, pointsInUse, pointX, pointY}
-use Rattle.parameters.specs.Search.{some, firstOf}
+use Rattle.integers.specs.Choice.{some}
+use Rattle.parameters.specs.Search.{firstOf}
 
 -- two whole numbers are equal
 abbrev pub sameZ : ℤ → ℤ → Bool

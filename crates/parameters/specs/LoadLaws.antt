@@ -12,7 +12,8 @@ use lib.ListN.{length, getD}
 use Rattle.parameters.specs.Rows.{lowestOut, outFrom, rowOf, rowAt, inRange, defaultsFrom, defaultTable}
 use Rattle.parameters.specs.RowLaws.{below-lowest, at-lowest}
 use Rattle.parameters.specs.Slots.{wordAt}
-use Rattle.parameters.specs.Search.{some, firstOf}
+use Rattle.integers.specs.Choice.{some}
+use Rattle.parameters.specs.Search.{firstOf}
 use Rattle.parameters.specs.SearchLaws.{first-least, first-own, first-only, first-none, none-first}
 use Rattle.parameters.specs.Load.{sameZ, wordsMissing, slotOut, fieldWrong, errorBitWrong, spanEmpty, notAbove, pointsNotRising, originMissing, frozenByEdge, freezeOnEdge, differ, differsFrom, polaritiesDiffer, conflicts, conditions, condition, loadNumber, loadSlot, refusal, loadOf}
 

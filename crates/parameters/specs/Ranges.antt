@@ -12,7 +12,7 @@ use Rattle.integers.specs.Limit.{Z}
 use Rattle.integers.specs.Int.{P, excl, Within, within, leZ-true, leZ-false, lt-of}
 use Rattle.parameters.specs.Rows.{low, high, rowOf, rowAt, inRange, whole}
 use Rattle.parameters.specs.Slots.{wordAt, natAt, resolution, bitsPerTurn, format, highBit, lowBit, offset, direction, roundLoop, errorBit, errorLevel, factor, divider, additive, linearization, analogFormat, analogStart, analogEnd, preselection, mode, hysteresis, pulse, target, polarity, lock, startup, action, config, pointsInUse, pointX, pointY}
-use Rattle.parameters.specs.Search.{some}
+use Rattle.integers.specs.Choice.{some}
 use Rattle.parameters.specs.SearchLaws.{some-none}
 use Rattle.parameters.specs.TestLaws.{or-both, and-both, and-second}
 use Rattle.parameters.specs.Load.{sameZ, fieldWrong, errorBitWrong, spanEmpty, notAbove, pointsNotRising, originMissing, frozenByEdge, freezeOnEdge, differ, differsFrom, polaritiesDiffer}

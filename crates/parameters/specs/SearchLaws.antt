@@ -1,4 +1,4 @@
--- Laws of the two searches.
+-- Laws of the two searches: some number that passes a test, and the first condition that holds.
 use mathlib.Core.Path.{_≡_, refl}
 use mathlib.Core.Bool.{Bool, true, false, _||_, or-true}
 use mathlib.Core.List.{List, [], _∷_}
@@ -7,7 +7,8 @@ use native.Mathlib.Decide.{ℕ-discrete}
 use native.Mathlib.Numerals.{add-one}
 use native.Mathlib.Omega.{arith}
 use lib.ListN.{getD}
-use Rattle.parameters.specs.Search.{some, firstOf}
+use Rattle.integers.specs.Choice.{some}
+use Rattle.parameters.specs.Search.{firstOf}
 use Rattle.parameters.specs.TestLaws.{or-both}
 
 module _ (f : ℕ → Bool) where

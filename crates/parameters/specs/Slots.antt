@@ -1,4 +1,4 @@
--- What each of the 104 slots of a table means. Other crates and definitions speak of these names, never of a slot's number.
+-- What each of the 104 slots of a table means. Other definitions speak of these names; the cases of `runs` set slots by number, as paper 01 does.
 -- Condenses paper 01, "The parameter table". Preselections are k = 0..3, inputs i = 0..2, points j = 0..23.
 use mathlib.Core.List.{List}
 use Prim.Native.Nat.{ℕ, _+_, _*_}

@@ -1,7 +1,8 @@
-// Checks 3 to 9, which hold slots of a table against each other.
+// Checks 3 to 9, which hold slots of a table against each other. Uses the slots of this crate.
 ghost use mathlib.Core.Path.{_≡_};
 ghost use Prim.Native.Nat.{_<_};
-ghost use Rattle.parameters.specs.Search.{some, firstOf};
+ghost use Rattle.integers.specs.Choice.{some};
+ghost use Rattle.parameters.specs.Search.{firstOf};
 ghost use Rattle.parameters.specs.Load.{fieldWrong, errorBitWrong, sameZ, spanEmpty, notAbove, pointsNotRising, originMissing, frozenByEdge, freezeOnEdge, differ, differsFrom, polaritiesDiffer, conflicts};
 use crate::number;
 use crate::slots;

@@ -1,4 +1,4 @@
-// The rows of the table, the check of every slot against its row, and the defaults.
+// The rows of the table, the check of every slot against its row, and the defaults. Uses nothing.
 ghost use mathlib.Core.Path.{_≡_};
 ghost use Rattle.parameters.specs.Rows.{rowOf, rowAt, inRange, lowestOut, defaultTable};
 

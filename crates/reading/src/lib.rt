@@ -1,5 +1,5 @@
 // One reading: from a table and a telegram to the result, the error, the analog code and the drive.
-// Uses `settings` and the parts that it hands the settings to: `ssi`, `measurement` and `analog`.
+// Uses `settings` and the parts that it hands the settings to, `ssi`, `measurement` and `analog`, and `parameters` for the direction and the analog slots.
 ghost use mathlib.Core.Path.{_≡_};
 ghost use lib.ListN.{length};
 ghost use Rattle.parameters.specs.Valid.{Valid};

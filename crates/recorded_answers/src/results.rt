@@ -1,4 +1,4 @@
-// Least and greatest after the log of a case, its words run one at a time.
+// Least and greatest after the log of a case, its words run one at a time. Uses `events`, `panel` and `commands`.
 use crate::case;
 use commands::state::Extremes;
 use commands::state::State;

@@ -1,4 +1,4 @@
-// The questions of a case on telegrams: builder, reading and diagnosis under the layout of its table.
+// The questions of a case on telegrams: builder, reading and diagnosis under the layout of its table. Uses `settings`, `parameters` and `ssi`.
 use crate::case;
 use crate::case::Difference;
 use parameters::number;

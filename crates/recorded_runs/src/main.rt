@@ -1,5 +1,6 @@
 // Runs every recorded case of data/cases.bin and compares what the engine prints with what is recorded there, made by separate code (tools/model).
-// A case is the length of its input, the length of its output, the input and the output. Uses `logrun` for all that is printed.
+// A case is the length of its input, the length of its output, the input and the output. Uses `logrun` for all that is printed, `events` to read a
+// case, `check` to compare, and `os`, `io` and `libc` for the file and the output.
 use libc::STDOUT_FILENO;
 use logrun::Progress;
 ghost use mathlib.Core.Path.{_≡_};
@@ -7,7 +8,7 @@ ghost use Prim.Native.Nat.{_+_, _≤_};
 ghost use lib.ListN.{length};
 ghost use Rattle.logrun.specs.Progress.{Ready};
 
-// The log of a loaded table: how many bytes of lines are put into the buffer from a place on.
+// The log of a loaded table, its lines put from `at` on: the place behind the last line. Room is left for the header and the last line, 128 bytes each.
 fn run_log(p: Progress, log: &[u8], out: &mut [u8], at: usize) -> usize
     requires { ⌜ Ready p × (length (now log) ≤ 608) × (at ≤ 128) × (length (now out) ≡ 20480) ⌝ }
     ensures { λ r. ⌜ r ≤ 20480 ⌝ }
@@ -51,12 +52,13 @@ fn say(n: u64, same: bool) {
     }
 }
 
-// Reads the two lengths of a case; 0 and 0 at the end of the file.
+// The lengths of a case's input and output.
 struct Lengths {
     input: usize,
     output: usize,
 }
 
+// Reads the two lengths of a case; 0 and 0 at the end of the file.
 fn next_lengths(fd: i32) -> Lengths {
     let mut head = [0u8; 8];
     let n = io::read_full(fd, &mut head);

@@ -1,4 +1,4 @@
--- The book of a run: of the table and the events alone, it gives E its p and O. It knows no state and no answer.
+-- The book of a run: levels, last accepted telegram and offset, kept from the table and the events alone; E takes its p and O from it. It knows no state and no answer.
 -- Paper 01, "Runs", second paragraph. Assumes nothing.
 use mathlib.Core.Bool.{Bool, true, false, cond, _&&_}
 use mathlib.Core.List.{List, [], _∷_}

@@ -43,7 +43,7 @@ unfoldable pub seenIn : ℕ → List Answer → List Seen
 seenIn k [] = []
 seenIn k (a ∷ rest) = record { result = counted a; on = switchAt (a .state .live .switches) k .on } ∷ seenIn k rest
 
--- what the run of a table shows of it
+-- results and condition k + 1 along the run of a table
 abbrev pub traceOf : List ℤ → List Event → ℕ → List Seen
 traceOf t es k = seenIn k (answersOf (freshOf t) es)
 

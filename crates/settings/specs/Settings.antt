@@ -1,4 +1,4 @@
--- A table read as settings: every part of the engine is handed the slots that concern it, under the names of its own struct.
+-- A table read as settings: layout, scaling with its points, and preselections, under the names of the parts' structs. `reading` reads the direction and the analog slots.
 -- Paper 01, "The parameter table". Assumes nothing.
 use mathlib.Core.List.{List, [], _∷_}
 use Prim.Native.Nat.{ℕ}

@@ -1,5 +1,5 @@
 -- Which layouts a loaded table can have: those that pass checks 2, 3 and 4 of paper 01, "Where each check sits".
--- Every contract of this crate asks for a sound layout.
+-- Every public function of this crate asks for a sound layout.
 use mathlib.Core.Bool.{Bool, _&&_, _||_}
 use mathlib.Core.Logic.{_⊎_}
 use Prim.Native.Nat.{ℕ, _≤_, _<_}

@@ -1,4 +1,4 @@
-// The condition of a preselection by its mode. The sums are made in 64 bits, so that none of them wraps.
+// The condition of a preselection by its mode. The sums are made in 64 bits, so that none of them wraps. Uses nothing.
 ghost use mathlib.Core.Path.{_≡_};
 ghost use Rattle.integers.specs.Int.{Within};
 ghost use Rattle.switching.specs.Condition.{unsigned, compared, against, latchedOf, onAbove, onBelow, onNear, conditionOf, exceeds};

@@ -9,33 +9,33 @@ ghost use Rattle.switching.specs.Switching.{freshSwitch, suppresses, rel
 
 // The settings of one preselection, with P in force.
 pub struct Preselection {
-    // P, the number that the result is compared with
+    // P, the number that the result is compared with.
     pub value: i32,
-    // how it is compared, 0 to 6
+    // How it is compared, 0 to 6.
     pub mode: u32,
-    // h, the way back before the condition goes off
+    // h, the way back before the condition goes off; in modes 2 and 5 the width of the window.
     pub hysteresis: u32,
-    // the pulse's length in ms, 0 for none
+    // The pulse's length in ms, 0 for none.
     pub pulse: u32,
-    // the output it is aimed at, 1 to 4, or 0 for none
+    // The output it is aimed at, 1 to 4, or 0 for none.
     pub target: u32,
-    // 1 where the output is active low
+    // 1 where the output is active low.
     pub polarity: u32,
-    // 1 where an active signal locks
+    // 1 where an active signal locks.
     pub lock: u32,
-    // 1 where start-up suppression is set up
+    // 1 where start-up suppression is set up.
     pub startup: u32,
 }
 
 // The state of one preselection.
 pub struct Switch {
-    // what is left of the pulse, in ms
+    // What is left of the pulse, in ms.
     pub pulse: u32,
-    // the condition
+    // The condition.
     pub on: bool,
-    // start-up suppression has ended
+    // Start-up suppression has ended, or there is none.
     pub released: bool,
-    // an active signal is held
+    // An active signal is held.
     pub locked: bool,
 }
 

@@ -1,4 +1,4 @@
-// The levels of the outputs, each from the preselections aimed at it. True is high.
+// The levels of the outputs, each from the preselections aimed at it. True is high. Uses the settings and switches of this crate.
 use crate::Preselection;
 use crate::Switch;
 ghost use mathlib.Core.Path.{_≡_};

@@ -1,6 +1,6 @@
 -- The four preselections are those below 4.
 use borrow.Author.Needs.{needs}
-use Rattle.parameters.specs.Search.{some}
+use Rattle.integers.specs.Choice.{some}
 use Rattle.parameters.specs.Load.{differsFrom}
 use Rattle.parameters.proofs.checks.differs_from.Statement.{statement}
 use Rattle.parameters.proofs.checks.differs_from.Tie as tie

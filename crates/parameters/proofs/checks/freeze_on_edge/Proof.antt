@@ -1,6 +1,6 @@
 -- The three inputs are those below 3.
 use borrow.Author.Needs.{needs}
-use Rattle.parameters.specs.Search.{some}
+use Rattle.integers.specs.Choice.{some}
 use Rattle.parameters.specs.Load.{freezeOnEdge}
 use Rattle.parameters.proofs.checks.freeze_on_edge.Statement.{statement}
 use Rattle.parameters.proofs.checks.freeze_on_edge.Tie as tie

@@ -1,6 +1,6 @@
 -- The four preselections are those below 4.
 use borrow.Author.Needs.{needs}
-use Rattle.parameters.specs.Search.{some}
+use Rattle.integers.specs.Choice.{some}
 use Rattle.parameters.specs.Load.{polaritiesDiffer}
 use Rattle.parameters.proofs.checks.polarities_differ.Statement.{statement}
 use Rattle.parameters.proofs.checks.polarities_differ.Tie as tie

@@ -2,7 +2,7 @@
 use mathlib.Core.Path.{_≡_, refl, sym, _∙_}
 use mathlib.Core.Bool.{false}
 use Prim.Native.Nat.{_≤_, _-_}
-use Rattle.parameters.specs.Search.{some}
+use Rattle.integers.specs.Choice.{some}
 use Rattle.parameters.specs.SearchLaws.{some-more, some-at, some-end}
 use Rattle.parameters.specs.Load.{notAbove}
 use borrow.Author.Needs.{needs}

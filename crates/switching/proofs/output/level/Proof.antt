@@ -1,6 +1,7 @@
 -- `switching::output::level` meets its contract: the four marks joined have the tests of the four preselections joined.
 use borrow.Author.Needs.{needs}
-use Rattle.switching.specs.Outputs.{anyBelow, activeAt, lowAt, levelOf}
+use Rattle.integers.specs.Choice.{some}
+use Rattle.switching.specs.Outputs.{activeAt, lowAt, levelOf}
 use Rattle.switching.specs.OutputLaws.{marks-joined, marked-level}
 use Rattle.switching.proofs.output.level.Statement.{statement}
 use Rattle.switching.proofs.output.level.Tie as tie
@@ -42,7 +43,7 @@ share-requires-4 : tie.Need-share-requires-4
 share-requires-4 c κs = search needs
 
 returns : tie.Need-returns
-unfolding anyBelow activeAt lowAt levelOf
+unfolding some activeAt lowAt levelOf
 returns c = let third = c .before .before .before in
     let second = third .before .before .before in
     let first = second .before .before .before in
