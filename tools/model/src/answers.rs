@@ -49,7 +49,7 @@ pub fn recording(seed: u64, count: u64) -> Recording {
     let mut recording = Recording::new("answers");
     for index in 0..count {
         let case = case(seed, index);
-        case.words().iter().for_each(|word| recording.cases.extend(word.to_le_bytes()));
+        recording.cases.extend(case.words().into_iter().flat_map(u32::to_le_bytes));
         recording.purposes.push_str(&format!("{} {}\n", index + 1, case.purpose()));
     }
     recording
@@ -65,14 +65,18 @@ pub fn case(seed: u64, index: u64) -> Case {
     for _ in 0..TABLES {
         let wish = Wish { format, ..moment.wish(&mut rng) };
         let draft = draft(&mut rng, &wish, resolution, narrowest);
-        for _ in 0..LOGS {
-            if let Some((log, extremes)) = log_up_to(&mut rng, &wish, &draft, moment) {
-                let questions = questions(&mut rng, &Table::from_words(&draft.words));
-                return Case { moment, table: draft.words, questions, log, extremes };
-            }
+        if let Some(case) = case_on(&mut rng, &wish, &draft, moment) {
+            return case;
         }
     }
     panic!("no log for {moment:?} with {resolution} bits");
+}
+
+/// A case on a table, where a log ends with the moment.
+fn case_on(rng: &mut Rng, wish: &Wish, draft: &Draft, moment: Moment) -> Option<Case> {
+    let (log, extremes) = (0..LOGS).find_map(|_| log_up_to(rng, wish, draft, moment))?;
+    let questions = questions(rng, &Table::from_words(&draft.words));
+    Some(Case { moment, table: draft.words, questions, log, extremes })
 }
 
 /// A random table of a resolution, with a field of so many bits or more.

@@ -24,9 +24,16 @@ pub fn sum(input: &[u8], rounds: u64) -> u64 {
     let mut panel = Panel::new(&table);
     let mut sum = 0u64;
     for _ in 0..rounds {
-        for event in &events {
-            sum = sum.wrapping_add(part(&panel.step(black_box(*event))));
-        }
+        sum = run_once(&mut panel, &events, sum);
+    }
+    sum
+}
+
+/// The sum after one more run of the events.
+#[inline]
+fn run_once(panel: &mut Panel, events: &[Event], mut sum: u64) -> u64 {
+    for event in events {
+        sum = sum.wrapping_add(part(&panel.step(black_box(*event))));
     }
     sum
 }
@@ -105,12 +112,22 @@ pub fn words() -> [i32; SLOTS] {
     let mut words = table::defaults();
     words[slot::FACTOR] = 123_457;
     words[slot::ADDITIVE] = -250;
+    set_curve(&mut words);
+    set_preselections(&mut words);
+    set_inputs(&mut words);
+    words
+}
+
+fn set_curve(words: &mut [i32; SLOTS]) {
     words[slot::LINEARIZATION] = 2;
     words[slot::POINTS_IN_USE] = 24;
     for point in 0..24 {
         words[slot::x(point)] = 900_000 * point as i32 - 100_000;
         words[slot::y(point)] = 7_001 * point as i32 - 80_000;
     }
+}
+
+fn set_preselections(words: &mut [i32; SLOTS]) {
     for k in 0..4 {
         words[slot::preselection(k)] = 20_000 * k as i32 - 30_000;
         words[slot::mode(k)] = [3, 4, 5, 6][k];
@@ -118,8 +135,10 @@ pub fn words() -> [i32; SLOTS] {
         words[slot::lock(k)] = i32::from(k == 3);
     }
     words[slot::pulse(0)] = 100;
+}
+
+fn set_inputs(words: &mut [i32; SLOTS]) {
     for input in 0..3 {
         words[slot::action(input)] = [3, 4, 5][input];
     }
-    words
 }

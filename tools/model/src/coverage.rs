@@ -70,16 +70,20 @@ impl Coverage {
         }
         self.errors[step.answer.error as usize] += 1;
         self.kinds[kind(step.event)] += 1;
+        self.see_freeze(step);
         self.see_actions(step);
         self.see_switches(step);
         self.see_setup(step);
     }
 
-    fn see_actions(&mut self, step: &Step) {
+    fn see_freeze(&mut self, step: &Step) {
         if panel::frozen(step.table, step.after.levels) {
             self.actions[2] += 1;
             self.held_shown += u64::from(step.after.shown != step.after.result);
         }
+    }
+
+    fn see_actions(&mut self, step: &Step) {
         let Event::Levels(levels) = step.event else {
             return;
         };
@@ -90,11 +94,15 @@ impl Coverage {
         let ended = step.before.error != 0 && step.after.error == 0;
         self.resets_ending_error += u64::from(ended);
         if asked.contains(&Action::ClearLocks) {
-            let locks = step.before.switches.iter().zip(&step.after.switches);
-            for (before, after) in locks.filter(|(before, _)| before.locked) {
-                self.unlocked += u64::from(!after.locked);
-                self.relocked += u64::from(before.locked && after.locked);
-            }
+            self.see_cleared_locks(step);
+        }
+    }
+
+    fn see_cleared_locks(&mut self, step: &Step) {
+        let locks = step.before.switches.iter().zip(&step.after.switches);
+        for (_, after) in locks.filter(|(before, _)| before.locked) {
+            self.unlocked += u64::from(!after.locked);
+            self.relocked += u64::from(after.locked);
         }
     }
 

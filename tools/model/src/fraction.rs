@@ -70,11 +70,13 @@ mod tests {
     #[test]
     fn rounded_is_nearest() {
         for upper in -60..=60 {
-            for lower in 1..=12 {
-                let exact = Fraction::new(upper, lower);
-                let off = Fraction::whole(exact.round()).plus(Fraction::new(-upper, lower));
-                assert!(off <= Fraction::new(1, 2) && off >= Fraction::new(-1, 2));
-            }
+            assert!((1..=12).all(|lower| rounds_to_nearest(upper, lower)));
         }
+    }
+
+    fn rounds_to_nearest(upper: i128, lower: i128) -> bool {
+        let exact = Fraction::new(upper, lower);
+        let off = Fraction::whole(exact.round()).plus(Fraction::new(-upper, lower));
+        off <= Fraction::new(1, 2) && off >= Fraction::new(-1, 2)
     }
 }

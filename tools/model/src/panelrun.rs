@@ -67,10 +67,8 @@ pub fn load(input: &[u8]) -> Result<Table, LoadRefusal> {
 
 /// Table and log words as an input.
 pub fn input_of(table: &[i32], log: &[u32]) -> Vec<u8> {
-    let mut bytes = Vec::with_capacity(4 * (table.len() + log.len()));
-    table.iter().for_each(|word| bytes.extend(word.to_le_bytes()));
-    log.iter().for_each(|word| bytes.extend(word.to_le_bytes()));
-    bytes
+    let table = table.iter().map(|&word| word as u32);
+    table.chain(log.iter().copied()).flat_map(u32::to_le_bytes).collect()
 }
 
 fn print_line(text: &mut String, number: usize, event: Event, answer: &Answer) {

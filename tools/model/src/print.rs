@@ -36,20 +36,24 @@ fn print_events(
     let mut chunk = vec![0; CHUNK];
     loop {
         let filled = fill(input, &mut chunk)?;
-        let words = chunk[..filled].chunks_exact(4);
-        let left_over = words.remainder().len();
-        for word in words {
-            let word = u32::from_le_bytes([word[0], word[1], word[2], word[3]]);
-            if let Err(refusal) = lines.word(word) {
-                return Ok(refusal);
-            }
+        if let Err(refusal) = chunk_lines(lines, &chunk[..filled]) {
+            return Ok(refusal);
         }
         if filled < CHUNK {
-            return Ok(lines.end(left_over));
+            return Ok(lines.end(filled % 4));
         }
         output.write_all(&lines.text)?;
         lines.text.clear();
     }
+}
+
+/// Adds the lines of the whole words in a chunk; refusal 14 or 15.
+#[inline]
+fn chunk_lines(lines: &mut Lines, chunk: &[u8]) -> Result<(), u8> {
+    for word in chunk.chunks_exact(4) {
+        lines.word(u32::from_le_bytes([word[0], word[1], word[2], word[3]]))?;
+    }
+    Ok(())
 }
 
 /// Reads until the buffer is full or the input ends.

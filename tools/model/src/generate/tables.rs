@@ -27,6 +27,7 @@ pub fn draft(rng: &mut Rng, wish: &Wish) -> Draft {
     let results = results(&words, &anchors);
     set_analog(rng, wish, &mut words, &results);
     set_preselections(rng, wish, &mut words, &results);
+    set_differences(rng, &mut words, &results);
     set_outputs(rng, wish, &mut words);
     set_inputs(rng, wish, &mut words);
     Draft { words, anchors }
@@ -277,13 +278,7 @@ fn set_analog(rng: &mut Rng, wish: &Wish, words: &mut [i32; SLOTS], results: &[i
 /// Preselections next to results, with modes, hysteresis, pulses and the rest.
 fn set_preselections(rng: &mut Rng, wish: &Wish, words: &mut [i32; SLOTS], results: &[i64]) {
     for k in 0..4 {
-        let value = match rng.weighted(&[70, 10, 10, 10]) {
-            0 => near(rng, results, 8),
-            1 => -near(rng, results, 8),
-            2 => rng.between(-30, 30),
-            _ => rng.ends(-LIMIT, LIMIT),
-        };
-        words[slot::preselection(k)] = value as i32;
+        words[slot::preselection(k)] = preselection(rng, results) as i32;
         let wished = wish.mode.filter(|_| rng.chance(60));
         words[slot::mode(k)] = wished.unwrap_or(rng.between(0, 6) as i32);
         words[slot::hysteresis(k)] = hysteresis(rng) as i32;
@@ -292,6 +287,19 @@ fn set_preselections(rng: &mut Rng, wish: &Wish, words: &mut [i32; SLOTS], resul
         words[slot::lock(k)] = i32::from(wish.lock || rng.chance(30));
         words[slot::suppression(k)] = i32::from(wish.suppression || rng.chance(45));
     }
+}
+
+fn preselection(rng: &mut Rng, results: &[i64]) -> i64 {
+    match rng.weighted(&[70, 10, 10, 10]) {
+        0 => near(rng, results, 8),
+        1 => -near(rng, results, 8),
+        2 => rng.between(-30, 30),
+        _ => rng.ends(-LIMIT, LIMIT),
+    }
+}
+
+/// In mode 6, mostly, preselections whose difference from the partner lies next to a result.
+fn set_differences(rng: &mut Rng, words: &mut [i32; SLOTS], results: &[i64]) {
     for k in 0..4 {
         if words[slot::mode(k)] == 6 && rng.chance(75) {
             let partner = i64::from(words[slot::preselection(k ^ 1)]);
@@ -351,8 +359,14 @@ fn set_inputs(rng: &mut Rng, wish: &Wish, words: &mut [i32; SLOTS]) {
         words[slot::action(input)] = action;
         words[slot::config(input)] = config;
     }
-    let only_wished = wish.config.is_some();
-    for input in (0..3).filter(|&input| only_wished && input != wished) {
+    if wish.config.is_some() {
+        unfreeze_others(words, wished);
+    }
+}
+
+/// Reset instead of freeze on the other inputs.
+fn unfreeze_others(words: &mut [i32; SLOTS], wished: usize) {
+    for input in (0..3).filter(|&input| input != wished) {
         if words[slot::action(input)] == 2 {
             words[slot::action(input)] = 1;
         }
