@@ -14,7 +14,7 @@ use Rattle.integers.specs.Limit.{Z}
 use Rattle.parameters.specs.Slots.{action, withOffset}
 use Rattle.parameters.specs.Stores.{valid-offset, valid-preselection}
 use Rattle.parameters.specs.Valid.{Valid}
-use Rattle.reading.specs.Reading.{placeOf}
+use Rattle.reading.specs.Reading.{directedOf}
 use Rattle.reading.specs.ReadingLaws.{result-within}
 use Rattle.commands.specs.declared.state.State.{State}
 use Rattle.commands.specs.State.{freshOf, withTable}
@@ -45,7 +45,7 @@ teach-below a t =
 -- a command leaves the state, or resets, clears, or teaches
 pub by-command : (a : ℕ) (s : State) (Q : State → Type 0) →
     Q s →
-    (T (eqb a 1) → placeOf (s .table) (s .live .telegram) ≤ Z → Q (resetOf s)) →
+    (T (eqb a 1) → directedOf (s .table) (s .live .telegram) ≤ Z → Q (resetOf s)) →
     Q (clearLocksOf s) →
     Q (clearExtremesOf s) →
     ((k : ℕ) → k < 4 → T (isTeach a) → T (eqb (refusalOf a s) 0) → Q (teachOf s k)) →
@@ -59,9 +59,9 @@ by-command a s Q same reset locks extremes teach =
     (λ _. by-test (isTeach a) (teachOf s (a - 5)) s Q (λ t. teach (a - 5) (teach-below a t) t e) (λ _. same)))))
     (λ _. same)
   where
-    place-fits : T (eqb (refusalOf a s) 0) → T (eqb a 1) → placeOf (s .table) (s .live .telegram) ≤ Z
+    place-fits : T (eqb (refusalOf a s) 0) → T (eqb a 1) → directedOf (s .table) (s .live .telegram) ≤ Z
     place-fits e t =
-        reset-fits (s .live .seen) (errorOf s) (placeOf (s .table) (s .live .telegram))
+        reset-fits (s .live .seen) (errorOf s) (directedOf (s .table) (s .live .telegram))
         (rw (is-true (eqb a 1) t) at (eqb-true (refusalOf a s) 0 (is-true (eqb (refusalOf a s) 0) e)))
 
 -- an input acts or does not
@@ -87,7 +87,7 @@ pub good-command : (a : ℕ) (s : State) → Good s → Good (commandOf a s .sta
 unfolding resetOf clearLocksOf clearExtremesOf teachOf
 good-command a s g =
     by-command a s Good g
-    (λ _ h. good-reread (withTable s (withOffset (s .table) (pos (placeOf (s .table) (s .live .telegram))))) (valid-offset (g .table) (record { above = h; below = omega arith })))
+    (λ _ h. good-reread (withTable s (withOffset (s .table) (pos (directedOf (s .table) (s .live .telegram))))) (valid-offset (g .table) (record { above = h; below = omega arith })))
     (record { table = g .table; result = g .result })
     (record { table = g .table; result = g .result })
     (λ k h _ _. record { table = valid-preselection (g .table) (g .result) k h; result = g .result })
@@ -101,9 +101,9 @@ good-commands s l g = good-input l 2 (inputOf l 1 (inputOf l 0 (acted s 0))) (go
 
 -- ---- what an action that is not refused may assume
 
-pub reset-allowed : (a : ℕ) (s : State) → a ≡ 1 → refusalOf a s ≡ 0 → placeOf (s .table) (s .live .telegram) ≤ Z
+pub reset-allowed : (a : ℕ) (s : State) → a ≡ 1 → refusalOf a s ≡ 0 → directedOf (s .table) (s .live .telegram) ≤ Z
 unfolding refusalOf
-reset-allowed a s one e = reset-fits (s .live .seen) (errorOf s) (placeOf (s .table) (s .live .telegram)) (rw (eq-eqb a 1 one) at e)
+reset-allowed a s one e = reset-fits (s .live .seen) (errorOf s) (directedOf (s .table) (s .live .telegram)) (rw (eq-eqb a 1 one) at e)
 
 pub teach-from : (a : ℕ) → T (isTeach a) → 5 ≤ a
 teach-from a t = leb-true 5 a (is-true (leb 5 a) (both (leb 5 a) (leb a 8) t .0))

@@ -10,7 +10,7 @@ use Rattle.integers.specs.Limit.{Z}
 use Rattle.measurement.specs.Measure.{errorNumber}
 use Rattle.parameters.specs.Slots.{action, config, withOffset, withPreselection}
 use Rattle.reading.specs.declared.Reading.{Reading}
-use Rattle.reading.specs.Reading.{placeOf, readingOf}
+use Rattle.reading.specs.Reading.{directedOf, readingOf}
 use Rattle.switching.specs.Switching.{allUnlocked}
 use Rattle.commands.specs.declared.state.Extremes.{Extremes}
 use Rattle.commands.specs.declared.state.Live.{Live}
@@ -63,7 +63,7 @@ resetRefusal seen error place = cond (not seen || eqb error 3) 13 (cond (ltb Z p
 
 -- 1, reset: O becomes p after direction, and the result is worked out again at once
 unfoldable pub resetOf : State → State
-resetOf s = rereadOf (withTable s (withOffset (s .table) (pos (placeOf (s .table) (s .live .telegram)))))
+resetOf s = rereadOf (withTable s (withOffset (s .table) (pos (directedOf (s .table) (s .live .telegram)))))
 
 -- 3, clear locks
 abbrev pub locksCleared : Live → Live
@@ -97,7 +97,7 @@ teachOf s k = withTable s (withPreselection (s .table) k (s .live .reading .resu
 -- the refusal of an action, 0 where it is carried out
 unfoldable pub refusalOf : ℕ → State → ℕ
 refusalOf a s =
-    cond (eqb a 1) (resetRefusal (s .live .seen) (errorOf s) (placeOf (s .table) (s .live .telegram)))
+    cond (eqb a 1) (resetRefusal (s .live .seen) (errorOf s) (directedOf (s .table) (s .live .telegram)))
     (cond (isTeach a) (teachRefusal (s .live .seen) (errorOf s)) 0)
 
 -- what an action that is not refused leaves; 0 is none, and 2, freeze, runs nothing

@@ -15,7 +15,7 @@ ghost use lib.Signed.{ltZ};
 ghost use Rattle.integers.specs.Limit.{Z};
 ghost use Rattle.parameters.specs.Slots.{withPreselection};
 ghost use Rattle.parameters.specs.Valid.{Valid};
-ghost use Rattle.reading.specs.Reading.{placeOf};
+ghost use Rattle.reading.specs.Reading.{directedOf};
 ghost use Rattle.commands.specs.State.{stateOf};
 ghost use Rattle.commands.specs.Commands.{errorIn, notedOf, rereadOf, leftBy, resetRefusal, resetOf, locksCleared, extremesAt, extremesCleared, isTeach, teachRefusal, refusalOf, carriedOut, commandOf, highAt, onRise, actsOn, edgeIn, firstNote, inputActs, commandsOf};
 ghost use Rattle.commands.specs.Valid.{Good};
@@ -110,10 +110,10 @@ fn teach_refusal(seen: bool, error: u32) -> u8
 
 // Reset: the offset becomes the position after direction.
 fn reset(t: &mut [i32; 104], l: Live) -> Live
-    requires { ⌜ Valid (now t) × (placeOf (now t) (l .telegram) ≤ Z) ⌝ }
+    requires { ⌜ Valid (now t) × (directedOf (now t) (l .telegram) ≤ Z) ⌝ }
     ensures { λ r. ⌜ stateOf (now (t .exit)) r ≡ resetOf (stateOf (now (t .entry)) l) ⌝ }
 {
-    let place = reading::place(t, l.telegram);
+    let place = reading::directed(t, l.telegram);
     t[slots::OFFSET] = place as i32;
     reread(t, l)
 }
@@ -185,7 +185,7 @@ fn refusal(action: u32, t: &[i32; 104], l: Live) -> u8
 {
     let error = error_in(l.reading);
     if action == 1 {
-        return reset_refusal(l.seen, error, reading::place(t, l.telegram));
+        return reset_refusal(l.seen, error, reading::directed(t, l.telegram));
     }
     if teaches(action) {
         return teach_refusal(l.seen, error);

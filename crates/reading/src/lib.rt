@@ -4,7 +4,7 @@ ghost use mathlib.Core.Path.{_≡_};
 ghost use lib.ListN.{length};
 ghost use Rattle.parameters.specs.Valid.{Valid};
 ghost use Rattle.settings.specs.Settings.{pointsOf};
-ghost use Rattle.reading.specs.Reading.{acceptsOf, placeOf, measuredAt, codeAt, driveAt, readingOf};
+ghost use Rattle.reading.specs.Reading.{acceptsOf, directedOf, measuredAt, codeAt, driveAt, readingOf};
 use analog::Drive;
 use measurement::Error;
 use measurement::Measured;
@@ -32,9 +32,9 @@ pub fn accepts(t: &[i32; 104], telegram: u32) -> bool
 }
 
 // The position of a telegram after direction.
-pub fn place(t: &[i32; 104], telegram: u32) -> u32
+pub fn directed(t: &[i32; 104], telegram: u32) -> u32
     requires { ⌜ Valid (now t) ⌝ }
-    ensures { λ r. ⌜ r ≡ placeOf (now (t .entry)) telegram ⌝ }
+    ensures { λ r. ⌜ r ≡ directedOf (now (t .entry)) telegram ⌝ }
 {
     let l = settings::layout(t);
     let p = ssi::position(l, telegram);
@@ -54,7 +54,7 @@ pub fn measured(t: &[i32; 104], telegram: u32) -> Measured
     requires { ⌜ Valid (now t) ⌝ }
     ensures { λ r. ⌜ r ≡ measuredAt (now (t .entry)) telegram ⌝ }
 {
-    let p = place(t, telegram);
+    let p = directed(t, telegram);
     let reported = ssi::error_reported(settings::layout(t), telegram);
     measurement::measure(settings::scaling(t), points(t), p, reported)
 }

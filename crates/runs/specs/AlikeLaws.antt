@@ -10,7 +10,7 @@ use lib.Seq.{ext-getD, getD-drop}
 use Rattle.measurement.specs.Measure.{usedPoints}
 use Rattle.parameters.specs.Slots as slot
 use Rattle.parameters.specs.Stores.{Alike}
-use Rattle.reading.specs.Reading.{acceptsOf, placeOf, measuredAt, codeAt, driveAt, readingOf, curveAt, slopeAt}
+use Rattle.reading.specs.Reading.{acceptsOf, directedOf, measuredAt, codeAt, driveAt, readingOf, curveAt, slopeAt}
 use Rattle.settings.specs.Settings.{layoutOf, scalingOf, pointsOf, preselectionOf, preselectionsOf}
 use Rattle.switching.specs.Switching.{preselectionAt}
 
@@ -46,9 +46,9 @@ module _ {s t : List ℤ} (a : Alike s t) where
   unfolding acceptsOf
   accepts-alike w = rw layout-alike
 
-  pub place-alike : (w : ℕ) → placeOf s w ≡ placeOf t w
-  unfolding placeOf
-  place-alike w = rw (layout-alike, at 6 (λ e. omega arith) (λ k h e. omega arith))
+  pub directed-alike : (w : ℕ) → directedOf s w ≡ directedOf t w
+  unfolding directedOf
+  directed-alike w = rw (layout-alike, at 6 (λ e. omega arith) (λ k h e. omega arith))
 
   -- ---- the inputs
 
@@ -92,11 +92,11 @@ module _ {s t : List ℤ} (a : Alike s t) where
 
       pub curve-alike : (w : ℕ) → curveAt s w ≡ curveAt t w
       unfolding curveAt
-      curve-alike w = rw (scaling-alike, points-alike, place-alike w)
+      curve-alike w = rw (scaling-alike, points-alike, directed-alike w)
 
       pub measured-alike : (w : ℕ) → measuredAt s w ≡ measuredAt t w
       unfolding measuredAt
-      measured-alike w = rw (scaling-alike, points-alike, place-alike w, layout-alike)
+      measured-alike w = rw (scaling-alike, points-alike, directed-alike w, layout-alike)
 
       pub reading-alike : (w : ℕ) → readingOf s w ≡ readingOf t w
       unfolding readingOf codeAt driveAt

@@ -17,7 +17,7 @@ use Rattle.integers.specs.Limit.{Z}
 use Rattle.measurement.specs.Measure.{errorNumber, measured, judgedOf, valueOf, measuredOf}
 use Rattle.parameters.specs.Slots.{offsetSlot, preselectionSlot, action, offset}
 use Rattle.parameters.specs.Stores.{word-kept, offset-stored}
-use Rattle.reading.specs.Reading.{acceptsOf, placeOf, measuredAt, readingOf}
+use Rattle.reading.specs.Reading.{acceptsOf, directedOf, measuredAt, readingOf}
 use Rattle.settings.specs.Settings.{layoutOf, scalingOf, pointsOf}
 use Rattle.ssi.specs.Telegram.{errorReported}
 use Rattle.panel.specs.declared.Answer.{Answer}
@@ -31,7 +31,7 @@ use Rattle.commands.specs.CommandLaws.{by-command, good-input}
 use Rattle.panel.specs.ValidLaws.{good-step}
 use Rattle.runs.specs.Run.{runOf}
 use Rattle.runs.specs.Book.{Book, freshBook, turnsTo, movesTo, asksReset, bookRefusal, bookInput, bookStep, bookFrom}
-use Rattle.runs.specs.AlikeLaws.{layout-alike, accepts-alike, place-alike, action-alike, config-alike}
+use Rattle.runs.specs.AlikeLaws.{layout-alike, accepts-alike, directed-alike, action-alike, config-alike}
 use Rattle.runs.specs.KeptLaws.{Kept, kept-input, kept-step}
 
 -- what a state says of the book
@@ -52,7 +52,7 @@ judged-bit false v =
 
 reading-bit : (t : List ℤ) (w : ℕ) → eqb (errorNumber (readingOf t w .error)) 3 ≡ errorReported (layoutOf t) w
 unfolding readingOf measuredAt measuredOf
-reading-bit t w = judged-bit (errorReported (layoutOf t) w) (valueOf (scalingOf t) (pointsOf t) (placeOf t w))
+reading-bit t w = judged-bit (errorReported (layoutOf t) w) (valueOf (scalingOf t) (pointsOf t) (directedOf t w))
 
 -- ---- a reset is refused in the state exactly where it is in the book
 
@@ -64,29 +64,29 @@ refusal-by true true error place f = rw (f tt)
 refusal-by true false error place f = rw (f tt)
 
 module _ {t : List ℤ} {s : State} (k : Kept t s) where
-  refusal-same : resetRefusal (s .live .seen) (errorOf s) (placeOf (s .table) (s .live .telegram)) ≡ bookRefusal t (bookIn s)
+  refusal-same : resetRefusal (s .live .seen) (errorOf s) (directedOf (s .table) (s .live .telegram)) ≡ bookRefusal t (bookIn s)
   unfolding bookRefusal
   refusal-same =
-      rw (place-alike (k .alike) (s .live .telegram))
-      (refusal-by (s .live .seen) (errorReported (layoutOf t) (s .live .telegram)) (errorOf s) (placeOf t (s .live .telegram))
+      rw (directed-alike (k .alike) (s .live .telegram))
+      (refusal-by (s .live .seen) (errorReported (layoutOf t) (s .live .telegram)) (errorOf s) (directedOf t (s .live .telegram))
       (λ y. rw (k .read y, ← layout-alike (k .alike)) (reading-bit (s .table) (s .live .telegram))))
 
 -- ---- a command
 
-pub book-reset : {t : List ℤ} {s : State} → Good s → Kept t s → bookIn (resetOf s) ≡ movesTo (bookIn s) (pos (placeOf t (s .live .telegram)))
+pub book-reset : {t : List ℤ} {s : State} → Good s → Kept t s → bookIn (resetOf s) ≡ movesTo (bookIn s) (pos (directedOf t (s .live .telegram)))
 unfolding resetOf rereadOf
-book-reset {t} {s} g k = rw (offset-stored (pos (placeOf (s .table) (s .live .telegram))) (g .table), place-alike (k .alike) (s .live .telegram))
+book-reset {t} {s} g k = rw (offset-stored (pos (directedOf (s .table) (s .live .telegram))) (g .table), directed-alike (k .alike) (s .live .telegram))
 
-reset-command : (a : ℕ) (s : State) → T (eqb a 1) → commandOf a s .state ≡ cond (eqb (resetRefusal (s .live .seen) (errorOf s) (placeOf (s .table) (s .live .telegram))) 0) (resetOf s) s
+reset-command : (a : ℕ) (s : State) → T (eqb a 1) → commandOf a s .state ≡ cond (eqb (resetRefusal (s .live .seen) (errorOf s) (directedOf (s .table) (s .live .telegram))) 0) (resetOf s) s
 unfolding commandOf refusalOf carriedOut
 reset-command a s y =
     rw (is-true (eqb a 1) y)
-    (map-cond (λ (x : Acted). x .state) (eqb (resetRefusal (s .live .seen) (errorOf s) (placeOf (s .table) (s .live .telegram))) 0) _ _)
+    (map-cond (λ (x : Acted). x .state) (eqb (resetRefusal (s .live .seen) (errorOf s) (directedOf (s .table) (s .live .telegram))) 0) _ _)
 
 module _ {t : List ℤ} {s : State} (g : Good s) (k : Kept t s) where
   -- O after a command
   abbrev Moved : Bool → Book
-  Moved resets = cond (resets && eqb (bookRefusal t (bookIn s)) 0) (movesTo (bookIn s) (pos (placeOf t (s .live .telegram)))) (bookIn s)
+  Moved resets = cond (resets && eqb (bookRefusal t (bookIn s)) 0) (movesTo (bookIn s) (pos (directedOf t (s .live .telegram)))) (bookIn s)
 
   book-command : (a : ℕ) → bookIn (commandOf a s .state) ≡ Moved (eqb a 1)
   unfolding clearLocksOf clearExtremesOf teachOf

@@ -13,7 +13,7 @@ use Rattle.events.specs.declared.Event.the-variants.{Telegram, Levels, Tick}
 use Rattle.integers.specs.Choice.{by-test}
 use Rattle.parameters.specs.Slots.{offsetSlot, preselectionSlot, action, withOffset}
 use Rattle.parameters.specs.Stores.{word-kept, offset-alike}
-use Rattle.reading.specs.Reading.{acceptsOf, placeOf}
+use Rattle.reading.specs.Reading.{acceptsOf, directedOf}
 use Rattle.settings.specs.Settings.{preselectionsOf}
 use Rattle.switching.specs.declared.Preselection.{Preselection}
 use Rattle.switching.specs.declared.Switch.{Switch}
@@ -81,7 +81,7 @@ command-stores : (a : ℕ) (s : State) → T (not (teaches a s)) → preselectio
 unfolding teaches resetOf rereadOf clearLocksOf clearExtremesOf
 command-stores a s n =
     by-command a s (λ (u : State). preselectionsIn u ≡ preselectionsIn s) refl
-    (λ _ _. offset-preselections (s .table) (pos (placeOf (s .table) (s .live .telegram)))) refl refl
+    (λ _ _. offset-preselections (s .table) (pos (directedOf (s .table) (s .live .telegram)))) refl refl
     (λ k h y z. absurd (never (teaches a s) (both (isTeach a) (eqb (refusalOf a s) 0) y z) n))
 
 input-stores : (l i : ℕ) (x : Acted) → T (not (storesAt l i x)) → preselectionsIn (inputOf l i x .state) ≡ preselectionsIn (x .state)

@@ -13,8 +13,8 @@ abbrev pub byMode : {A : Type 0} → ℕ → A → A → A → A → A → A →
 byMode mode x₀ x₁ x₂ x₃ x₄ x₅ x₆ = getD (x₀ ∷ x₁ ∷ x₂ ∷ x₃ ∷ x₄ ∷ x₅ ∷ []) mode x₆
 
 -- Switching, "without sign"
-abbrev pub unsigned : ℤ → ℤ
-unsigned z = pos (natAbs z)
+abbrev pub magnitudeOf : ℤ → ℤ
+magnitudeOf z = pos (natAbs z)
 
 -- Switching, "on at .., off at .., else kept"
 unfoldable pub latchedOf : Bool → Bool → Bool → Bool
@@ -34,11 +34,11 @@ onNear r p h = leb (2 * natAbs (r -ℤ p)) h
 
 -- Switching, what a mode compares: modes 0, 1 and 2 take r without its sign
 unfoldable pub compared : ℕ → ℤ → ℤ
-compared mode r = byMode mode (unsigned r) (unsigned r) (unsigned r) r r r r
+compared mode r = byMode mode (magnitudeOf r) (magnitudeOf r) (magnitudeOf r) r r r r
 
 -- Switching, what it compares with: P, in modes 0, 1 and 2 without its sign, in mode 6 the partner's minus the own
 unfoldable pub against : ℕ → ℤ → ℤ → ℤ
-against mode own partner = byMode mode (unsigned own) (unsigned own) (unsigned own) own own own (partner -ℤ own)
+against mode own partner = byMode mode (magnitudeOf own) (magnitudeOf own) (magnitudeOf own) own own own (partner -ℤ own)
 
 -- Switching, the modes: 0 and 6 as 3, 1 as 4, 2 as 5, each on what it compares
 unfoldable pub ruleOf : ℕ → ℤ → ℤ → ℕ → Bool → Bool

@@ -8,18 +8,18 @@ use native.Mathlib.Decide.{decLe}
 use lib.IntN.{ℤ, pos, _-ℤ_, _*ℤ_}
 use lib.Signed.{leZ, ltZ}
 use Rattle.integers.specs.Int.{ints, excl, sub-is, abs-is, Within, sub-within}
-use Rattle.switching.specs.Condition.{byMode, unsigned, onAbove, onBelow, onNear, compared, against, ruleOf}
+use Rattle.switching.specs.Condition.{byMode, magnitudeOf, onAbove, onBelow, onNear, compared, against, ruleOf}
 
 -- ---- a number without its sign
 
-pub unsigned-turn : (x : ℤ) → ltZ x (pos 0) ≡ true → pos 0 -ℤ x ≡ unsigned x
-unsigned-turn x e = omega (arith, ints, sub-is (pos 0) x, excl x, abs-is x)
+pub magnitudeOf-turn : (x : ℤ) → ltZ x (pos 0) ≡ true → pos 0 -ℤ x ≡ magnitudeOf x
+magnitudeOf-turn x e = omega (arith, ints, sub-is (pos 0) x, excl x, abs-is x)
 
-pub unsigned-keep : (x : ℤ) → ltZ x (pos 0) ≡ false → x ≡ unsigned x
-unsigned-keep x e = omega (arith, ints, excl x, abs-is x)
+pub magnitudeOf-keep : (x : ℤ) → ltZ x (pos 0) ≡ false → x ≡ magnitudeOf x
+magnitudeOf-keep x e = omega (arith, ints, excl x, abs-is x)
 
-pub unsigned-within : {A : ℕ} {x : ℤ} → Within A x → Within A (unsigned x)
-unsigned-within {A} {x} h = record { above = omega (arith, abs-is x, excl x, h .above, h .below); below = omega arith }
+pub magnitudeOf-within : {A : ℕ} {x : ℤ} → Within A x → Within A (magnitudeOf x)
+magnitudeOf-within {A} {x} h = record { above = omega (arith, abs-is x, excl x, h .above, h .below); below = omega arith }
 
 pub within-twice : {A : ℕ} {x : ℤ} → Within A x → Within (A + A) x
 within-twice h = record { above = omega (arith, h .above); below = omega (arith, h .below) }
@@ -36,11 +36,11 @@ every-mode Q (suc (suc (suc (suc zero)))) a b c d e f g = e
 every-mode Q (suc (suc (suc (suc (suc zero))))) a b c d e f g = f
 every-mode Q (suc (suc (suc (suc (suc (suc mode)))))) a b c d e f g = g
 
-pub unsigned-mode : {A : Type 0} (mode : ℕ) (x y z : A) → mode < 3 → x ≡ byMode mode x x x y y y z
-unsigned-mode zero x y z h = refl
-unsigned-mode (suc zero) x y z h = refl
-unsigned-mode (suc (suc zero)) x y z h = refl
-unsigned-mode (suc (suc (suc mode))) x y z h = absurd (omega arith)
+pub magnitudeOf-mode : {A : Type 0} (mode : ℕ) (x y z : A) → mode < 3 → x ≡ byMode mode x x x y y y z
+magnitudeOf-mode zero x y z h = refl
+magnitudeOf-mode (suc zero) x y z h = refl
+magnitudeOf-mode (suc (suc zero)) x y z h = refl
+magnitudeOf-mode (suc (suc (suc mode))) x y z h = absurd (omega arith)
 
 pub signed-mode : {A : Type 0} (mode : ℕ) (x y z : A) → 3 ≤ mode → mode < 6 → y ≡ byMode mode x x x y y y z
 signed-mode zero x y z l h = absurd (omega arith)
@@ -70,12 +70,12 @@ signed-modes mode x y l = go (decLe 6 mode)
 
 pub compared-within : (mode : ℕ) {A : ℕ} {r : ℤ} → Within A r → Within A (compared mode r)
 unfolding compared
-compared-within mode {A} h = every-mode (Within A) mode (unsigned-within h) (unsigned-within h) (unsigned-within h) h h h h
+compared-within mode {A} h = every-mode (Within A) mode (magnitudeOf-within h) (magnitudeOf-within h) (magnitudeOf-within h) h h h h
 
 pub against-within : (mode : ℕ) {A : ℕ} {own partner : ℤ} → Within A own → Within A partner → Within (A + A) (against mode own partner)
 unfolding against
 against-within mode {A} {own} {partner} h k =
-    let u = unsigned-within h in
+    let u = magnitudeOf-within h in
     every-mode (Within (A + A)) mode (within-twice u) (within-twice u) (within-twice u) (within-twice h) (within-twice h) (within-twice h) (sub-within k h)
 
 -- the rule of a mode: below its mark, near it, or else above it
@@ -101,6 +101,6 @@ rule-above (suc (suc (suc (suc (suc zero))))) r p h was b n = absurd (n (inr ref
 rule-above (suc (suc (suc (suc (suc (suc mode)))))) r p h was b n = refl
 
 -- mode 5's test by the code's product
-pub near-is : (r p : ℤ) (h : ℕ) → leZ (pos 2 *ℤ unsigned (r -ℤ p)) (pos h) ≡ onNear r p h
+pub near-is : (r p : ℤ) (h : ℕ) → leZ (pos 2 *ℤ magnitudeOf (r -ℤ p)) (pos h) ≡ onNear r p h
 unfolding onNear
 near-is r p h = refl

@@ -12,7 +12,7 @@ use lib.IntN.{ℤ, pos, negsuc, negℤ, natAbs, _+ℤ_, _-ℤ_}
 use lib.Signed.{leZ, ltZ}
 use Rattle.integers.specs.Int.{P}
 use Rattle.integers.specs.Ring.{var, lit, _⊕_, _⊖_, neg, abs-ex, pos-ex, le-ex, lt-ex, le-by, lt-by}
-use Rattle.switching.specs.Condition.{byMode, unsigned, latchedOf, onAbove, onBelow, compared, against, ruleOf, conditionOf}
+use Rattle.switching.specs.Condition.{byMode, magnitudeOf, latchedOf, onAbove, onBelow, compared, against, ruleOf, conditionOf}
 use Rattle.switching.specs.Travel.{Seen, travel, changed, changes, hysteretic}
 
 -- ---- one event
@@ -100,11 +100,11 @@ view mode r = upward mode (compared mode r)
 unfoldable pub mark : ℕ → ℤ → ℤ → ℤ
 mark mode own partner = upward mode (against mode own partner)
 
-gentle-unsigned : (a b : ℤ) → natAbs (unsigned a -ℤ unsigned b) ≤ natAbs (a -ℤ b)
-gentle-unsigned (pos a) (pos b) = omega arith
-gentle-unsigned (pos a) (negsuc b) = omega (arith, abs-ex (lit a ⊖ lit (suc b)), abs-ex (lit a ⊖ neg (lit (suc b))))
-gentle-unsigned (negsuc a) (pos b) = omega (arith, abs-ex (lit (suc a) ⊖ lit b), abs-ex (neg (lit (suc a)) ⊖ lit b))
-gentle-unsigned (negsuc a) (negsuc b) = omega (arith, abs-ex (lit (suc a) ⊖ lit (suc b)), abs-ex (neg (lit (suc a)) ⊖ neg (lit (suc b))))
+gentle-magnitudeOf : (a b : ℤ) → natAbs (magnitudeOf a -ℤ magnitudeOf b) ≤ natAbs (a -ℤ b)
+gentle-magnitudeOf (pos a) (pos b) = omega arith
+gentle-magnitudeOf (pos a) (negsuc b) = omega (arith, abs-ex (lit a ⊖ lit (suc b)), abs-ex (lit a ⊖ neg (lit (suc b))))
+gentle-magnitudeOf (negsuc a) (pos b) = omega (arith, abs-ex (lit (suc a) ⊖ lit b), abs-ex (neg (lit (suc a)) ⊖ lit b))
+gentle-magnitudeOf (negsuc a) (negsuc b) = omega (arith, abs-ex (lit (suc a) ⊖ lit (suc b)), abs-ex (neg (lit (suc a)) ⊖ neg (lit (suc b))))
 
 gentle-neg : (a b : ℤ) → natAbs (negℤ a -ℤ negℤ b) ≤ natAbs (a -ℤ b)
 gentle-neg a b = omega (arith, abs-ex (neg (var a) ⊖ neg (var b)), abs-ex (var a ⊖ var b))
@@ -114,9 +114,9 @@ gentle-same a b = omega arith
 
 pub gentle : (mode : ℕ) → Gentle (view mode)
 unfolding view compared
-gentle zero = gentle-unsigned
-gentle (suc zero) = λ a b. omega (arith, gentle-neg (unsigned a) (unsigned b), gentle-unsigned a b)
-gentle (suc (suc zero)) = gentle-unsigned
+gentle zero = gentle-magnitudeOf
+gentle (suc zero) = λ a b. omega (arith, gentle-neg (magnitudeOf a) (magnitudeOf b), gentle-magnitudeOf a b)
+gentle (suc (suc zero)) = gentle-magnitudeOf
 gentle (suc (suc (suc zero))) = gentle-same
 gentle (suc (suc (suc (suc zero)))) = gentle-neg
 gentle (suc (suc (suc (suc (suc zero))))) = gentle-same

@@ -1,19 +1,19 @@
 // The condition of a preselection by its mode. The sums are made in 64 bits, so that none of them wraps. Uses nothing.
 ghost use mathlib.Core.Path.{_≡_};
 ghost use Rattle.integers.specs.Int.{Within};
-ghost use Rattle.switching.specs.Condition.{unsigned, compared, against, latchedOf, onAbove, onBelow, onNear, conditionOf, exceeds};
+ghost use Rattle.switching.specs.Condition.{magnitudeOf, compared, against, latchedOf, onAbove, onBelow, onNear, conditionOf, exceeds};
 
 // A number without its sign.
 fn magnitude(x: i64) -> i64
     requires { ⌜ Within 8589934592 x ⌝ }
-    ensures { λ m. ⌜ m ≡ unsigned x ⌝ }
+    ensures { λ m. ⌜ m ≡ magnitudeOf x ⌝ }
 {
     if x < 0 { 0 - x } else { x }
 }
 
 // A word without its sign.
 fn without_sign(x: i32) -> i64
-    ensures { λ m. ⌜ m ≡ unsigned x ⌝ }
+    ensures { λ m. ⌜ m ≡ magnitudeOf x ⌝ }
 {
     magnitude(x as i64)
 }

@@ -8,8 +8,8 @@ use Rattle.commands.proofs.refusal.Tie as tie
 error-in-requires : tie.Need-error-in-requires
 error-in-requires c κs = search needs
 
-place-requires : tie.Need-place-requires
-place-requires c κs = search needs
+directed-requires : tie.Need-directed-requires
+directed-requires c κs = search needs
 
 reset-refusal-requires : tie.Need-reset-refusal-requires
 reset-refusal-requires c κs = search needs
@@ -17,7 +17,7 @@ reset-refusal-requires c κs = search needs
 returns : tie.Need-returns
 unfolding refusalOf
 returns c = let b = c .before .before in
-    rw (eq-eqb _ _ (b .if1 .taken), c .reset-refusal .ensures, c .before .place .ensures, b .before .error-in .ensures)
+    rw (eq-eqb _ _ (b .if1 .taken), c .reset-refusal .ensures, c .before .directed .ensures, b .before .error-in .ensures)
 
 teaches-requires : tie.Need-teaches-requires
 teaches-requires c κs = search needs
@@ -40,7 +40,7 @@ refusal-spec =
     tie.close
     (tie.spec
     error-in-requires
-    place-requires
+    directed-requires
     reset-refusal-requires
     returns
     teaches-requires

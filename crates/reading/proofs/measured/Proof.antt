@@ -5,8 +5,8 @@ use Rattle.reading.specs.Reading.{measuredAt}
 use Rattle.reading.proofs.measured.Statement.{statement}
 use Rattle.reading.proofs.measured.Tie as tie
 
-place-requires : tie.Need-place-requires
-place-requires c κs = search needs
+directed-requires : tie.Need-directed-requires
+directed-requires c κs = search needs
 
 layout-requires : tie.Need-layout-requires
 layout-requires c κs = search needs
@@ -28,13 +28,13 @@ returns : tie.Need-returns
 unfolding measuredAt
 returns c = let b = c .before .before .before in
     let d = b .before in
-    rw (c .measure .ensures, b .scaling .ensures, c .before .points .ensures, d .error-reported .ensures, d .before .layout .ensures, d .before .before .place .ensures)
+    rw (c .measure .ensures, b .scaling .ensures, c .before .points .ensures, d .error-reported .ensures, d .before .layout .ensures, d .before .before .directed .ensures)
 
 pub measured-spec : {M : Type 1} → statement M
 measured-spec =
     tie.close
     (tie.spec
-    place-requires
+    directed-requires
     layout-requires
     error-reported-requires
     scaling-requires

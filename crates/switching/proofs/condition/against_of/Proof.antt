@@ -5,7 +5,7 @@ use mir.Syntax.{w64}
 use mir.Facts.{toZ-ofZ}
 use Rattle.integers.specs.Int.{ints, fit, back-at}
 use Rattle.switching.specs.Condition.{against}
-use Rattle.switching.specs.ConditionLaws.{unsigned-mode, signed-mode, partner-mode}
+use Rattle.switching.specs.ConditionLaws.{magnitudeOf-mode, signed-mode, partner-mode}
 use Rattle.switching.proofs.condition.against_of.Statement.{statement}
 use Rattle.switching.proofs.condition.against_of.Tie as tie
 
@@ -42,7 +42,7 @@ unfolding against
 returns-3 c =
     let s = c .before .before .before in
     rw (back-at w64 (c .without-sign .result) (c .without-sign .ok), c .without-sign .ensures, toZ-ofZ (s .fits .own))
-    (unsigned-mode (s .args .mode) _ _ _ (c .before .if2 .left))
+    (magnitudeOf-mode (s .args .mode) _ _ _ (c .before .if2 .left))
 
 pub against-of-spec : {M : Type 1} → statement M
 against-of-spec =

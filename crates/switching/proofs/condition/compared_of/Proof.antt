@@ -5,7 +5,7 @@ use mir.Syntax.{w64}
 use mir.Facts.{toZ-ofZ}
 use Rattle.integers.specs.Int.{ints, back-at}
 use Rattle.switching.specs.Condition.{compared}
-use Rattle.switching.specs.ConditionLaws.{unsigned-mode, signed-modes}
+use Rattle.switching.specs.ConditionLaws.{magnitudeOf-mode, signed-modes}
 use Rattle.switching.proofs.condition.compared_of.Statement.{statement}
 use Rattle.switching.proofs.condition.compared_of.Tie as tie
 
@@ -17,7 +17,7 @@ unfolding compared
 returns c =
     let s = c .before .before in
     rw (back-at w64 (c .without-sign .result) (c .without-sign .ok), c .without-sign .ensures, toZ-ofZ (s .fits .r))
-    (unsigned-mode (s .args .mode) _ _ _ (c .before .if1 .taken))
+    (magnitudeOf-mode (s .args .mode) _ _ _ (c .before .if1 .taken))
 
 cast-result : tie.Need-cast-result
 cast-result c = omega (arith, ints)

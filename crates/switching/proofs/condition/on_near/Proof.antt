@@ -7,8 +7,8 @@ use lib.IntN.{pos, _-ℤ_}
 use mir.Syntax.{w64}
 use mir.Facts.{toZ-ofZ, toZ-pos}
 use Rattle.integers.specs.Int.{Within, sub-within, fits-within, mul-within, back-at, bk}
-use Rattle.switching.specs.Condition.{unsigned}
-use Rattle.switching.specs.ConditionLaws.{unsigned-within, near-is}
+use Rattle.switching.specs.Condition.{magnitudeOf}
+use Rattle.switching.specs.ConditionLaws.{magnitudeOf-within, near-is}
 use Rattle.switching.proofs.condition.on_near.Statement.{statement}
 use Rattle.switching.proofs.condition.on_near.Tie as tie
 
@@ -23,13 +23,13 @@ magnitude-requires : tie.Need-magnitude-requires
 magnitude-requires c κs = rw (toZ-ofZ (sub-magnitude c), toZ-ofZ (c .fits .r), toZ-ofZ (c .fits .p)) (apart-within c)
 
 -- what the call gave
-apart-is : (c : tie.After-magnitude) → bk w64 (c .magnitude .result) ≡ unsigned (c .before .args .r -ℤ c .before .args .p)
+apart-is : (c : tie.After-magnitude) → bk w64 (c .magnitude .result) ≡ magnitudeOf (c .before .args .r -ℤ c .before .args .p)
 apart-is c =
     let s = c .before in
     rw (back-at w64 (c .magnitude .result) (c .magnitude .ok), c .magnitude .ensures, toZ-ofZ (sub-magnitude s), toZ-ofZ (s .fits .r), toZ-ofZ (s .fits .p))
 
 mul-result : tie.Need-mul-result
-mul-result c = rw (apart-is c) (fits-within (mul-within {a = pos 2} two (unsigned-within (apart-within (c .before)))) (lit< tt))
+mul-result c = rw (apart-is c) (fits-within (mul-within {a = pos 2} two (magnitudeOf-within (apart-within (c .before)))) (lit< tt))
   where
     two : Within 2 (pos 2)
     two = record { above = omega arith; below = omega arith }

@@ -1,12 +1,12 @@
--- `reading::place` meets its contract: the position is below M, so direction turns it within M.
+-- `reading::directed` meets its contract: the position is below M, so direction turns it within M.
 use borrow.Author.Needs.{needs}
 use native.Mathlib.Omega.{arith}
 use Rattle.settings.specs.Settings.{layoutOf}
 use Rattle.settings.specs.SettingsLaws.{layout-sound}
 use Rattle.ssi.specs.SoundLaws.{position-lt}
-use Rattle.reading.specs.Reading.{placeOf}
-use Rattle.reading.proofs.place.Statement.{statement}
-use Rattle.reading.proofs.place.Tie as tie
+use Rattle.reading.specs.Reading.{directedOf}
+use Rattle.reading.proofs.directed.Statement.{statement}
+use Rattle.reading.proofs.directed.Tie as tie
 
 layout-requires : tie.Need-layout-requires
 layout-requires c κs = search needs
@@ -28,12 +28,12 @@ turned-requires c κs = let b = c .before .before in
     (omega (arith, s .from-one, s .low-high, s .high-resolution, s .to-32), position-lt (layoutOf t) (b .before .before .args .telegram))
 
 returns : tie.Need-returns
-unfolding placeOf
+unfolding directedOf
 returns c = let b = c .before .before .before in
     rw (c .turned .ensures, c .before .before .number .ensures, c .before .width .ensures, b .position .ensures, b .before .layout .ensures)
 
-pub place-spec : {M : Type 1} → statement M
-place-spec =
+pub directed-spec : {M : Type 1} → statement M
+directed-spec =
     tie.close
     (tie.spec
     layout-requires
