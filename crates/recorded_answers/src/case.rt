@@ -1,19 +1,22 @@
 // A recorded case: its words, and what may differ in it. Uses `events` for a word of four bytes.
+ghost use mathlib.Core.Path.{_≡_};
 ghost use Prim.Native.Nat.{_<_};
+ghost use Rattle.recorded_answers.specs.Answers.{wordIn, differsOf};
 
-// The first words of the questions, of the log, and of least and greatest. The table stands before them.
+// The first words of the questions, and of least and greatest. The table stands before them.
 pub const QUESTIONS: usize = 104;
-
-pub const LOG: usize = 159;
 
 pub const EXTREMES: usize = 179;
 
-// How many questions there are, words of a question, and words of a log.
+// The bytes of the log, between the two.
+pub const LOG_START: usize = 636;
+
+pub const LOG_END: usize = 716;
+
+// How many questions there are, and words of a question.
 pub const QUESTION_COUNT: usize = 5;
 
 pub const QUESTION_WORDS: usize = 11;
-
-pub const LOG_WORDS: usize = 20;
 
 // What the engine answers otherwise than is recorded.
 pub enum Difference {
@@ -31,15 +34,22 @@ pub enum Difference {
 // Word k of a case, of four bytes, the lowest first.
 pub fn word(case: &[u8; 728], k: usize) -> u32
     requires { ⌜ k < 182 ⌝ }
+    ensures { λ r. ⌜ r ≡ wordIn (now (case .entry)) k ⌝ }
 {
     let i = 4 * k;
     events::word_at(case[i], case[i + 1], case[i + 2], case[i + 3])
 }
 
 // Whether anything differs.
-pub fn differs(d: Difference) -> bool {
+pub fn differs(d: Difference) -> bool
+    ensures { λ r. ⌜ r ≡ differsOf d ⌝ }
+{
     match d {
         Difference::Nothing => false,
-        _ => true,
+        Difference::Load => true,
+        Difference::Builder(_) => true,
+        Difference::Reading(_) => true,
+        Difference::Diagnosis(_) => true,
+        Difference::Extremes => true,
     }
 }

@@ -1,6 +1,6 @@
 // Asks the engine what panelrun does not print, and compares with the answers in data/answers.bin, made by separate code (tools/model): telegrams built, read and
 // diagnosed, and the least and the greatest result after a log. A case is a table, questions on telegrams, a log, and least and greatest, 182 words of 4 bytes.
-// Uses `logrun` to load a table from its bytes, `settings` and `ssi` for telegrams, `events` and `panel` for logs.
+// Uses `logrun` to load a table from its bytes, `settings` and `ssi` for telegrams, `events`, `commands` and `parameters` for a case, and `os`, `io` and `libc` for the file and the output.
 mod case; // case.rt: the words of a case
 mod results; // results.rt: least and greatest
 mod telegrams; // telegrams.rt: builder, reading, diagnosis
@@ -19,7 +19,7 @@ fn difference(c: &[u8; 728]) -> Difference {
     if case::differs(d) {
         return d;
     }
-    if results::same(s, c) {
+    if results::logged(s, c) {
         return Difference::Nothing;
     }
     Difference::Extremes

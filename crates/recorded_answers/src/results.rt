@@ -1,71 +1,48 @@
-// Least and greatest after the log of a case, its words run one at a time. Uses `events`, `panel` and `commands`.
+// Least and greatest after the log of a case. Uses `logrun` to run the log, `commands` for the state, and `parameters` to compare words.
 use crate::case;
 use commands::state::Extremes;
 use commands::state::State;
-use events::Pending;
-use events::Taken;
+use parameters::checks::same;
+ghost use mathlib.Core.Path.{_≡_};
+ghost use lib.ListN.{length};
 ghost use Rattle.commands.specs.Valid.{Good};
+ghost use Rattle.events.specs.Bytes.{wordsIn};
+ghost use Rattle.logrun.specs.Progress.{startOf, wordsFed};
+ghost use Rattle.recorded_answers.specs.Answers.{logIn, extremesAs, loggedAs};
 
-// A run between two words of its log.
-struct Run {
-    state: State,
-    // The upper half that may be waiting.
-    pending: Pending,
-}
-
-// One word: its event steps the panel. A word that brings none, or is refused, leaves the state.
-fn run_word(r: Run, w: u32) -> Run
-    requires { ⌜ Good (r .state) ⌝ }
-    ensures { λ n. ⌜ Good (n .state) ⌝ }
+// Least and greatest after the log.
+fn after_log(fresh: State, c: &[u8]) -> Extremes
+    requires { ⌜ Good fresh × (length (now c) ≡ 728) ⌝ }
+    ensures { λ r. ⌜ r ≡ wordsFed (startOf fresh) (wordsIn (logIn (now (c .entry)))) .state .live .extremes ⌝ }
 {
-    let state = r.state;
-    let before = r.pending;
-    let s = events::word(before, w);
-    let pending = s.pending;
-    let taken = s.taken;
-    if let Taken::Happened(e) = taken {
-        let a = panel::step(state, e);
-        let next = a.state;
-        return Run {
-            state: next,
-            pending,
-        };
-    }
-    Run { state, pending }
-}
-
-// The state after the log.
-fn run_log(fresh: State, c: &[u8; 728]) -> State
-    requires { ⌜ Good fresh ⌝ }
-{
-    let mut r = Run {
-        state: fresh,
-        pending: events::fresh(),
-    };
-    let mut k: usize = 0;
-    while k < case::LOG_WORDS {
-        r = run_word(r, case::word(c, case::LOG + k));
-        k += 1;
-    }
-    r.state
-}
-
-// Least and greatest of a state.
-fn extremes(s: State) -> Extremes {
+    let mut lines = [0u8; 2560];
+    let f = logrun::feed(
+        logrun::start(fresh),
+        &c[case::LOG_START..case::LOG_END],
+        &mut lines,
+    );
+    let p = f.progress;
+    let s = p.state;
     let l = s.live;
     l.extremes
 }
 
-// Whether least and greatest after the log are as recorded.
-pub fn same(fresh: State, c: &[u8; 728]) -> bool
-    requires { ⌜ Good fresh ⌝ }
+// Whether least and greatest are as recorded.
+fn recorded(x: Extremes, c: &[u8; 728]) -> bool
+    ensures { λ r. ⌜ r ≡ extremesAs x (now (c .entry)) ⌝ }
 {
-    let x = extremes(run_log(fresh, c));
-    if x.any as u32 != case::word(c, case::EXTREMES) {
-        return false;
-    }
-    if x.least != logrun::signed(case::word(c, case::EXTREMES + 1)) {
-        return false;
-    }
-    x.greatest == logrun::signed(case::word(c, case::EXTREMES + 2))
+    (x.any as u32 == case::word(c, case::EXTREMES))
+        & same(x.least, logrun::signed(case::word(c, case::EXTREMES + 1)))
+        & same(
+            x.greatest,
+            logrun::signed(case::word(c, case::EXTREMES + 2)),
+        )
+}
+
+// Whether least and greatest after the log are as recorded.
+pub fn logged(fresh: State, c: &[u8; 728]) -> bool
+    requires { ⌜ Good fresh ⌝ }
+    ensures { λ r. ⌜ r ≡ loggedAs fresh (now (c .entry)) ⌝ }
+{
+    recorded(after_log(fresh, c), c)
 }
