@@ -79,7 +79,7 @@ telegramOf s w = cond (acceptsOf (s .table) w) (answerOf (settledOf (rereadOf (w
 unfoldable pub levelsOf : State → ℕ → Answer
 levelsOf s l = cond (leb l 7) (answerOf (settledOf (withLevels (commandsOf s l .state) l)) (commandsOf s l .note)) (answerOf s 10)
 
--- "Ticks change pulses", and through them signals and outputs
+-- Switching, "ticks use it up": pulses, and through them signals and outputs
 unfoldable pub tickOf : State → ℕ → Answer
 tickOf s ms = answerOf (withSwitches s (allTicked ms (s .live .switches))) 0
 
@@ -89,5 +89,5 @@ stepOf s (Levels l) = levelsOf s l
 stepOf s (Tick ms) = tickOf s ms
 
 -- the answer that an event comes to, from what it does before switching and display
-abbrev pub endOf : List ℤ → Begun → Answer
-endOf t b = cond (b .settles) (answerOf (settledOf (stateOf t (b .live))) (b .note)) (answerOf (stateOf t (b .live)) (b .note))
+abbrev pub answerAfter : List ℤ → Begun → Answer
+answerAfter t b = cond (b .settles) (answerOf (settledOf (stateOf t (b .live))) (b .note)) (answerOf (stateOf t (b .live)) (b .note))

@@ -2,7 +2,7 @@
 -- Paper 01, "Switching", the last three sentences. Outputs are counted from 1, as targets name them. Assumes nothing.
 use mathlib.Core.Bool.{Bool, cond, not, _&&_}
 use mathlib.Core.List.{List, [], _∷_}
-use Prim.Native.Nat.{ℕ, _+_, _*_}
+use Prim.Native.Nat.{ℕ}
 use lib.Dec.{eqb}
 use Rattle.integers.specs.Choice.{some}
 use Rattle.switching.specs.declared.Preselection.{Preselection}
@@ -36,16 +36,3 @@ levelOf n ps ss = cond (lowAt n ps) (not (activeAt n ps ss)) (activeAt n ps ss)
 -- panelrun, "the levels of outputs 1 to 4"
 unfoldable pub outputsOf : List Preselection → List Switch → List Bool
 outputsOf ps ss = levelOf 1 ps ss ∷ levelOf 2 ps ss ∷ levelOf 3 ps ss ∷ levelOf 4 ps ss ∷ []
-
--- ---- how the levels are worked out
-
--- 1 where a preselection is active, and 2 more where it is active low; two marks are joined bit by bit
-abbrev pub marked : Bool → Bool → ℕ
-marked active low = cond active 1 0 + 2 * cond low 1 0
-
-abbrev pub markOf : Preselection → Switch → ℕ
-markOf p s = marked (activeOf p s) (eqb (p .polarity) 1)
-
--- the mark where it is aimed at output n
-abbrev pub shareOf : ℕ → Preselection → Switch → ℕ
-shareOf n p s = marked (drivesOf n p s) (invertsOf n p)

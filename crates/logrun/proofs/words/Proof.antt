@@ -60,7 +60,10 @@ word-requires : tie.Need-word-requires Inv-loop μ-loop
 word-requires c κs = (c .before .before .before .before .before .before .before .before .loop .inv .1, omega arith)
 
 add-i : tie.Need-add-i Inv-loop μ-loop
-add-i c = add-loop (c .before .before .before .before .before .before .before .before .before .before .before .before)
+add-i c =
+    let turn = c .before .before .before .before .before .before .before .before .before .before .before in
+    let bytes = turn .before .before .before .before .good .1 .1 .0 in
+    omega (arith, turn .loop-test .taken, bytes .1)
 
 loop-less : tie.Need-loop-less Inv-loop μ-loop
 loop-less c = omega arith

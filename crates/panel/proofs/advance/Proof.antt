@@ -11,7 +11,7 @@ use Rattle.commands.specs.State.{stateOf}
 use Rattle.commands.specs.Valid.{Good}
 use Rattle.panel.specs.declared.Answer.{Answer}
 use Rattle.panel.specs.declared.Begun.{Begun}
-use Rattle.panel.specs.Step.{answerOf, settledOf, stepOf, endOf}
+use Rattle.panel.specs.Step.{answerOf, settledOf, stepOf, answerAfter}
 use Rattle.panel.specs.ValidLaws.{good-step}
 use Rattle.panel.proofs.advance.Statement.{statement}
 use Rattle.panel.proofs.advance.Tie as tie
@@ -27,7 +27,7 @@ promised : (s : State) (e : Event) (r : Answer) → Good s → r ≡ stepOf s e 
 promised s e r g is = (is, subst (λ (a : Answer). Good (a .state)) (sym is) (good-step g e))
 
 -- an event with which switching and display follow
-ended : (t : List ℤ) (b : Begun) (l : Live) (a : Answer) → b .settles ≡ true → stateOf t l ≡ settledOf (stateOf t (b .live)) → endOf t b ≡ a →
+ended : (t : List ℤ) (b : Begun) (l : Live) (a : Answer) → b .settles ≡ true → stateOf t l ≡ settledOf (stateOf t (b .live)) → answerAfter t b ≡ a →
     answerOf (stateOf t l) (b .note) ≡ a
 ended t b l a on s e = ap (λ (x : State). answerOf x (b .note)) s ∙ (rw on at e)
 
