@@ -115,9 +115,13 @@ pointX t j = wordAt t (56 + 2 * j)
 abbrev pub pointY : List ℤ → ℕ → ℤ
 pointY t j = wordAt t (57 + 2 * j)
 
+-- the table with one slot changed; a slot behind the last changes nothing
+abbrev pub withWord : List ℤ → ℕ → ℤ → List ℤ
+withWord t slot x = set t slot x
+
 -- what a reset and a teach store
 abbrev pub withOffset : List ℤ → ℤ → List ℤ
-withOffset t x = set t offsetSlot x
+withOffset t x = withWord t offsetSlot x
 
 abbrev pub withPreselection : List ℤ → ℕ → ℤ → List ℤ
-withPreselection t k x = set t (preselectionSlot k) x
+withPreselection t k x = withWord t (preselectionSlot k) x

@@ -4,7 +4,7 @@ ghost use mathlib.Core.Path.{_≡_};
 ghost use Prim.Native.Nat.{_<_};
 ghost use lib.ListN.{length};
 ghost use Rattle.integers.specs.Int.{P};
-ghost use Rattle.parameters.specs.Slots.{wordAt, natAt};
+ghost use Rattle.parameters.specs.Slots.{wordAt, natAt, withWord};
 ghost use Rattle.parameters.specs.Load.{refusal, loadOf};
 
 pub mod checks; // checks.rt: checks 3 to 9
@@ -35,6 +35,17 @@ pub fn number(t: &[i32; 104], slot: usize) -> u32
     ensures { λ r. ⌜ r ≡ natAt (now (t .entry)) slot ⌝ }
 {
     unsigned(t[slot])
+}
+
+// The table with one slot changed; a slot behind the last changes nothing.
+pub fn changed(t: [i32; 104], slot: usize, x: i32) -> [i32; 104]
+    ensures { λ r. ⌜ r ≡ withWord t slot x ⌝ }
+{
+    let mut next = t;
+    if slot < 104 {
+        next[slot] = x;
+    }
+    next
 }
 
 // What loading answers.
