@@ -4,6 +4,8 @@ pub mod Limit
 pub mod Int
 pub mod Ring
 pub mod Round
+pub mod TwosComplement
 pub mod Fraction
 pub mod RoundLaws
 pub mod FloorLaws
+pub mod TwosComplementLaws

@@ -1,5 +1,7 @@
 // Whole numbers: the one rounding division and the one remainder of the engine, and the laws of signed numbers that all proofs use.
 // Uses no other crate.
+pub mod twos_complement; // twos_complement.rt: signed words of 32 bits and their bits
+
 ghost use mathlib.Core.Path.{_≡_};
 ghost use Rattle.integers.specs.Round.{roundDiv, floorMod};
 
