@@ -12,7 +12,8 @@ use Rattle.events.specs.ByteLaws.{wordFrom, words-next, words-done}
 use Rattle.lines.specs.Put.{Put}
 use Rattle.lines.specs.PutLaws.{put-front, put-behind}
 use Rattle.logrun.specs.declared.Progress.{Progress}
-use Rattle.logrun.specs.Input.{signedOf, tableBytes}
+use Rattle.integers.specs.TwosComplement.{signedOf}
+use Rattle.logrun.specs.Input.{tableBytes}
 use Rattle.logrun.specs.Progress.{wordFed, wordText, wordsFed, wordsText}
 use Rattle.logrun.specs.ProgressLaws.{fed-next, text-next}
 

@@ -9,6 +9,7 @@ use lib.Dec.{eqb}
 use lib.IntN.{ℤ}
 use lib.ListN.{length, take, length-map}
 use lib.Seq.{take-all}
+use Rattle.integers.specs.TwosComplement.{signedOf}
 use Rattle.events.specs.Bytes.{wordsIn}
 use Rattle.parameters.specs.Load.{slotOut, conditions, condition, loadNumber, loadSlot}
 use Rattle.parameters.specs.LoadLaws.{load-length, number-only, answer-slot}
@@ -16,7 +17,7 @@ use Rattle.parameters.specs.Rows.{lowestOut, defaultTable}
 use Rattle.panel.specs.declared.Loaded.{Loaded}
 use Rattle.panel.specs.Load.{loadedOf}
 use Rattle.commands.specs.State.{freshOf}
-use Rattle.logrun.specs.Input.{signedOf, tableBytes, tableOf}
+use Rattle.logrun.specs.Input.{tableBytes, tableOf}
 
 -- four bytes a word
 pub words-length : (bytes : List ℕ) → 4 * length (wordsIn bytes) ≤ length bytes

@@ -1,10 +1,11 @@
 // A log run to its lines, a piece at a time: the table from its bytes, the events stepped, their lines put into a lent buffer.
-// Uses `events` for the log's words, `panel` for the steps on the state of `commands`, and `lines` for what is printed.
+// Uses `integers` for signed words, `events` for the log's words, `panel` for the steps on the state of `commands`, and `lines` for what is printed.
 use commands::state::Live;
 use commands::state::State;
 use events::Event;
 use events::Pending;
 use events::Taken;
+use integers::twos_complement;
 use panel::Loaded;
 ghost use mathlib.Core.Path.{_≡_};
 ghost use Prim.Native.Nat.{_+_, _*_, _≤_};
@@ -17,7 +18,7 @@ ghost use Rattle.lines.specs.LineLaws.{longest};
 ghost use Rattle.lines.specs.Put.{Put};
 ghost use Rattle.panel.specs.Load.{loadedOf};
 ghost use Rattle.commands.specs.Valid.{Good};
-ghost use Rattle.logrun.specs.Input.{signedOf, tableBytes, tableOf};
+ghost use Rattle.logrun.specs.Input.{tableBytes, tableOf};
 ghost use Rattle.logrun.specs.Output.{openingText};
 ghost use Rattle.logrun.specs.Progress.{counted, startOf, courseOf, progressOf, afterTaken, textTaken, wordFed, wordText, wordsFed, wordsText, finishedOf, Ready};
 
@@ -74,16 +75,6 @@ pub struct Opened {
     pub end: usize,
 }
 
-// A word of 32 bits as a signed word.
-pub fn signed(w: u32) -> i32
-    ensures { λ r. ⌜ r ≡ signedOf w ⌝ }
-{
-    if w < 0x8000_0000 {
-        return w as i32;
-    }
-    (w as i64 - 0x1_0000_0000) as i32
-}
-
 // The words of a table.
 fn table_of(bytes: &[u8]) -> [i32; 104]
     requires { ⌜ tableBytes ≤ length (now bytes) ⌝ }
@@ -93,7 +84,12 @@ fn table_of(bytes: &[u8]) -> [i32; 104]
     let mut k: usize = 0;
     while k < 104 {
         let i = 4 * k;
-        t[k] = signed(events::word_at(bytes[i], bytes[i + 1], bytes[i + 2], bytes[i + 3]));
+        t[k] = twos_complement::signed(events::word_at(
+            bytes[i],
+            bytes[i + 1],
+            bytes[i + 2],
+            bytes[i + 3],
+        ));
         k += 1;
     }
     t

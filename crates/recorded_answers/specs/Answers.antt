@@ -11,7 +11,7 @@ use Rattle.commands.specs.declared.state.Extremes.{Extremes}
 use Rattle.commands.specs.declared.state.State.{State}
 use Rattle.events.specs.ByteLaws.{wordFrom}
 use Rattle.events.specs.Bytes.{wordsIn}
-use Rattle.logrun.specs.Input.{signedOf}
+use Rattle.integers.specs.TwosComplement.{signedOf}
 use Rattle.logrun.specs.Progress.{startOf, wordsFed}
 use Rattle.parameters.specs.Load.{sameZ}
 use Rattle.parameters.specs.Slots.{bitsPerTurn}

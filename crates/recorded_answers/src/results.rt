@@ -1,7 +1,8 @@
-// Least and greatest after the log of a case. Uses `logrun` to run the log, `commands` for the state, and `parameters` to compare words.
+// Least and greatest after the log of a case. Uses `logrun` to run the log, `commands` for the state, `integers` for signed words, and `parameters` to compare them.
 use crate::case;
 use commands::state::Extremes;
 use commands::state::State;
+use integers::twos_complement;
 use parameters::checks::same;
 ghost use mathlib.Core.Path.{_≡_};
 ghost use lib.ListN.{length};
@@ -32,10 +33,13 @@ fn recorded(x: Extremes, c: &[u8; 728]) -> bool
     ensures { λ r. ⌜ r ≡ extremesAs x (now (c .entry)) ⌝ }
 {
     (x.any as u32 == case::word(c, case::EXTREMES))
-        & same(x.least, logrun::signed(case::word(c, case::EXTREMES + 1)))
+        & same(
+            x.least,
+            twos_complement::signed(case::word(c, case::EXTREMES + 1)),
+        )
         & same(
             x.greatest,
-            logrun::signed(case::word(c, case::EXTREMES + 2)),
+            twos_complement::signed(case::word(c, case::EXTREMES + 2)),
         )
 }
 

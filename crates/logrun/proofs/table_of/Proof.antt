@@ -7,7 +7,8 @@ use lib.ListN.{length, take, drop, length-set}
 use mir.Syntax.{w32}
 use Rattle.integers.specs.Int.{bk, back-at}
 use Rattle.events.specs.Bytes.{wordsIn}
-use Rattle.logrun.specs.Input.{signedOf, tableBytes, tableOf}
+use Rattle.integers.specs.TwosComplement.{signedOf}
+use Rattle.logrun.specs.Input.{tableBytes, tableOf}
 use Rattle.logrun.proofs.Pieces.{table-more, table-done}
 use Rattle.logrun.proofs.table_of.Statement.{statement}
 use Rattle.logrun.proofs.table_of.Tie as tie
