@@ -1,5 +1,6 @@
 -- The modules of this crate's definitions and laws, in the order in which to read them.
 pub mod Choice
+pub mod TestLaws
 pub mod Limit
 pub mod Int
 pub mod Ring

@@ -4,9 +4,9 @@ pub mod Words
 pub mod Request
 pub mod Replies
 pub mod Cases
-pub mod BoolLaws
 pub mod XorLaws
 pub mod CrcLaws
 pub mod WordLaws
+pub mod WholeLaws
 pub mod RequestLaws
 pub mod RoundTripLaws

@@ -1,5 +1,5 @@
-// The byte side of a Modbus RTU slave: what a frame asks, and the bytes of a reply.
-// It knows nothing of tables and events. Uses `integers` for signed words.
+// The byte side of a Modbus RTU slave: what a frame asks, and the bytes of every reply. It knows frames and registers, and nothing of the panel.
+// Uses `integers` for signed words.
 pub mod checksum; // checksum.rt: the CRC
 pub mod replies; // replies.rt: the bytes of a reply
 mod words; // words.rt: numbers of 16 bits and their bytes
@@ -10,6 +10,21 @@ ghost use mathlib.Core.Path.{_≡_};
 ghost use Prim.Native.Nat.{_≤_};
 ghost use lib.ListN.{length};
 ghost use Rattle.modbus.specs.Request.{startIn, valueIn, isMisfit, crcRight, isBroken, isMapped, isUnknown, wrongAmount, wrongStart, requestIn, askedOf};
+
+// The function that reads.
+pub const READ: u8 = 3;
+
+// The function that writes.
+pub const WRITE: u8 = 16;
+
+// The most bytes of a frame.
+pub const MOST_BYTES: usize = 256;
+
+// The registers of the slots, from 0 on: two for each of 104.
+const SLOT_REGISTERS: u16 = 2 * 104;
+
+// The first of the two registers of the shown value.
+pub const SHOWN_REGISTER: u16 = 0x1000;
 
 // What a frame asks.
 pub enum Request {
@@ -39,10 +54,10 @@ fn misfit(f: &[u8]) -> bool
     ensures { λ r. ⌜ r ≡ isMisfit (now (f .entry)) ⌝ }
 {
     let function = f[1];
-    if function == 3 {
+    if function == READ {
         return f.len() != 8;
     }
-    if function == 16 {
+    if function == WRITE {
         if f.len() < 9 {
             return true;
         }
@@ -52,22 +67,24 @@ fn misfit(f: &[u8]) -> bool
 }
 
 // Whether the last two bytes are the CRC of the others.
-fn crc_right(f: &[u8]) -> bool
-    requires { ⌜ 4 ≤ length (now f) ⌝ }
+pub fn crc_right(f: &[u8]) -> bool
     ensures { λ r. ⌜ r ≡ crcRight (now (f .entry)) ⌝ }
 {
+    if f.len() < 2 {
+        return false;
+    }
     let end = f.len() - 2;
     words::number_of(f[end + 1], f[end]) == checksum::crc(&f[..end])
 }
 
 // Whether a frame is refused with 20.
-fn broken(f: &[u8]) -> bool
+pub fn broken(f: &[u8]) -> bool
     ensures { λ r. ⌜ r ≡ isBroken (now (f .entry)) ⌝ }
 {
     if f.len() < 4 {
         return true;
     }
-    if f.len() > 256 {
+    if f.len() > MOST_BYTES {
         return true;
     }
     if misfit(f) {
@@ -80,25 +97,27 @@ fn broken(f: &[u8]) -> bool
 fn mapped(register: u16) -> bool
     ensures { λ r. ⌜ r ≡ isMapped register ⌝ }
 {
-    if register == 0x1000 {
+    if register == SHOWN_REGISTER {
         return true;
     }
-    if register < 208 {
+    if register < SLOT_REGISTERS {
         return register % 2 == 0;
     }
     false
 }
 
-// Whether the function is none of the two that the slave knows.
-fn unknown(f: &[u8]) -> bool
-    requires { ⌜ 4 ≤ length (now f) ⌝ }
+// Whether the function is none of the two that a slave knows.
+pub fn unknown(f: &[u8]) -> bool
     ensures { λ r. ⌜ r ≡ isUnknown (now (f .entry)) ⌝ }
 {
+    if f.len() < 2 {
+        return true;
+    }
     let function = f[1];
-    if function == 3 {
+    if function == READ {
         return false;
     }
-    function != 16
+    function != WRITE
 }
 
 // Whether the quantity is not 2, or the byte count of a write not 4.
@@ -109,7 +128,7 @@ fn wrong_amount(f: &[u8]) -> bool
     if words::number_of(f[4], f[5]) != 2 {
         return true;
     }
-    if f[1] == 16 {
+    if f[1] == WRITE {
         return f[6] != 4;
     }
     false
@@ -132,8 +151,8 @@ fn wrong_start(f: &[u8]) -> bool
     if !mapped(start) {
         return true;
     }
-    if f[1] == 16 {
-        return start == 0x1000;
+    if f[1] == WRITE {
+        return start == SHOWN_REGISTER;
     }
     false
 }
@@ -162,7 +181,7 @@ fn requested(f: &[u8]) -> Request
     if wrong_start(f) {
         return Request::Exception(f[1], 2);
     }
-    if f[1] == 16 {
+    if f[1] == WRITE {
         return Request::Write(start_of(f), value_of(f));
     }
     Request::Read(start_of(f))
@@ -179,7 +198,7 @@ pub fn asked(node: u8, f: &[u8]) -> Demand
         };
     }
     if f[0] == 0 {
-        if f[1] == 16 {
+        if f[1] == WRITE {
             return Demand {
                 request: requested(f),
                 reply: false,

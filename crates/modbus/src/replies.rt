@@ -19,15 +19,17 @@ pub fn read_reply(node: u8, z: i32) -> Reply
     ensures { λ r. ⌜ r ≡ packed (readReply node z) ⌝ }
 {
     let w = twos_complement::bits(z);
-    let b0 = (w / 0x100 % 0x100) as u8;
-    let b1 = (w % 0x100) as u8;
-    let b2 = (w / 0x100_0000) as u8;
-    let b3 = (w / 0x1_0000 % 0x100) as u8;
-    let body = [node, 3, 4, b0, b1, b2, b3];
+    let low_half = (w % 0x1_0000) as u16;
+    let high_half = (w / 0x1_0000) as u16;
+    let b0 = words::high_byte(low_half);
+    let b1 = words::low_byte(low_half);
+    let b2 = words::high_byte(high_half);
+    let b3 = words::low_byte(high_half);
+    let body = [node, crate::READ, 4, b0, b1, b2, b3];
     let c = checksum::crc(&body);
     let low = words::low_byte(c);
     let high = words::high_byte(c);
-    let bytes = [node, 3, 4, b0, b1, b2, b3, low, high];
+    let bytes = [node, crate::READ, 4, b0, b1, b2, b3, low, high];
     Reply { bytes, length: 9 }
 }
 
@@ -37,15 +39,25 @@ pub fn write_reply(node: u8, register: u16) -> Reply
 {
     let start_high = words::high_byte(register);
     let start_low = words::low_byte(register);
-    let body = [node, 16, start_high, start_low, 0, 2];
+    let body = [node, crate::WRITE, start_high, start_low, 0, 2];
     let c = checksum::crc(&body);
     let low = words::low_byte(c);
     let high = words::high_byte(c);
-    let bytes = [node, 16, start_high, start_low, 0, 2, low, high, 0];
+    let bytes = [
+        node,
+        crate::WRITE,
+        start_high,
+        start_low,
+        0,
+        2,
+        low,
+        high,
+        0,
+    ];
     Reply { bytes, length: 8 }
 }
 
-// The reply that refuses a function.
+// The reply that refuses a function with an exception.
 pub fn exception_reply(node: u8, function: u8, code: u8) -> Reply
     ensures { λ r. ⌜ r ≡ packed (exceptionReply node function code) ⌝ }
 {

@@ -3,7 +3,6 @@ pub mod Rows
 pub mod Slots
 pub mod Search
 pub mod Load
-pub mod TestLaws
 pub mod RowLaws
 pub mod SearchLaws
 pub mod LoadLaws

@@ -14,7 +14,7 @@ use Rattle.parameters.specs.Rows.{low, high, rowOf, rowAt, inRange, whol
 use Rattle.parameters.specs.Slots.{wordAt, natAt, resolution, bitsPerTurn, format, highBit, lowBit, offset, direction, roundLoop, errorBit, errorLevel, factor, divider, additive, linearization, analogFormat, analogStart, analogEnd, preselection, mode, hysteresis, pulse, target, polarity, lock, startup, action, config, pointsInUse, pointX, pointY}
 use Rattle.integers.specs.Choice.{some}
 use Rattle.parameters.specs.SearchLaws.{some-none}
-use Rattle.parameters.specs.TestLaws.{or-both, and-both, and-second}
+use Rattle.integers.specs.TestLaws.{or-both, and-both, and-second}
 use Rattle.parameters.specs.Load.{sameZ, fieldWrong, errorBitWrong, spanEmpty, notAbove, pointsNotRising, originMissing, frozenByEdge, freezeOnEdge, differ, differsFrom, polaritiesDiffer}
 use Rattle.parameters.specs.LoadLaws.{same-yes, same-true}
 use Rattle.parameters.specs.Valid.{Valid}

@@ -9,7 +9,7 @@ use native.Mathlib.Omega.{arith}
 use lib.ListN.{getD}
 use Rattle.integers.specs.Choice.{some}
 use Rattle.parameters.specs.Search.{firstOf}
-use Rattle.parameters.specs.TestLaws.{or-both}
+use Rattle.integers.specs.TestLaws.{or-both}
 
 module _ (f : ℕ → Bool) where
   -- none so far, and not the next one
