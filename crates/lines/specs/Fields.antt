@@ -9,7 +9,8 @@ use Rattle.decimal.specs.Decimal.{textOf}
 use Rattle.events.specs.declared.Event.{Event}
 use Rattle.measurement.specs.Measure.{errorNumber}
 use Rattle.panel.specs.Step.{answerOf, answerBy, outputsIn}
-use Rattle.lines.specs.Lines.{space, newline, number, kindLetter, outsText, analogText, eventLine}
+use Rattle.text.specs.Marks.{space, newline, number}
+use Rattle.lines.specs.Lines.{kindLetter, outsText, analogText, eventLine}
 
 -- result shown error
 unfoldable pub valueFields : Live → List ℕ

@@ -1,6 +1,4 @@
 -- The modules of this crate's definitions and laws, in the order in which to read them.
 pub mod Lines
-pub mod Put
-pub mod PutLaws
 pub mod Fields
 pub mod LineLaws

@@ -12,7 +12,8 @@ use Rattle.decimal.specs.DecimalLaws.{text-at-most-19}
 use Rattle.events.specs.declared.Event.{Event}
 use Rattle.measurement.specs.Measure.{errorNumber}
 use Rattle.panel.specs.declared.Answer.{Answer}
-use Rattle.lines.specs.Lines.{space, analogText, codeIn, headerLine, eventLine, loadLine, endLine}
+use Rattle.text.specs.Marks.{space}
+use Rattle.lines.specs.Lines.{analogText, codeIn, headerLine, eventLine, loadLine, endLine}
 use Rattle.lines.specs.Fields.{valueFields}
 
 -- the most bytes that a line has

@@ -3,7 +3,7 @@
 use mathlib.Core.Bool.{Bool, true, false}
 use mathlib.Core.List.{List, [], _∷_, _++_}
 use Prim.Native.Nat.{ℕ}
-use lib.IntN.{ℤ, pos}
+use lib.IntN.{ℤ}
 use lib.ListN.{getD}
 use Rattle.analog.specs.declared.Drive.{Drive}
 use Rattle.analog.specs.declared.Drive.the-variants.{Off, Volts, Milliamps}
@@ -12,25 +12,15 @@ use Rattle.events.specs.declared.Event.{Event}
 use Rattle.events.specs.declared.Event.the-variants.{Telegram, Levels, Tick}
 use Rattle.measurement.specs.Measure.{errorNumber}
 use Rattle.panel.specs.declared.Answer.{Answer}
+use Rattle.text.specs.Marks.{space, newline, number}
 
 -- ---- a line of fields
-
--- the bytes of a space and of a newline
-abbrev pub space : ℕ
-space = 32
-
-abbrev pub newline : ℕ
-newline = 10
 
 -- "Fields are parted by one space"; every line ends in one newline
 abbrev pub lineWith : List (List ℕ) → List ℕ
 lineWith [] = newline ∷ []
 lineWith (f ∷ []) = f ++ (newline ∷ [])
 lineWith (f ∷ (g ∷ fs)) = f ++ (space ∷ []) ++ lineWith (g ∷ fs)
-
--- the text of a number that is not negative
-abbrev pub number : ℕ → List ℕ
-number n = textOf (pos n)
 
 -- ---- the first line: event kind result shown error outs analog note
 

@@ -1,5 +1,5 @@
 // The lines that panelrun prints, each put into a buffer that the caller lends, at a place, with the place behind it as the answer.
-// Uses `decimal` for numbers, and `panel`, `commands`, `events`, `measurement` and `analog` for what a line tells.
+// Uses `text` to put them, and `panel`, `commands`, `events`, `measurement` and `analog` for what a line tells.
 use analog::Drive;
 use commands::state::Live;
 use commands::state::Outcome;
@@ -8,13 +8,13 @@ ghost use mathlib.Core.Path.{_≡_};
 ghost use mathlib.Core.List.{_∷_, [], _++_};
 ghost use Prim.Native.Nat.{_+_, _≤_};
 ghost use lib.ListN.{length};
-ghost use Rattle.integers.specs.Int.{Within};
-ghost use Rattle.decimal.specs.Decimal.{largest, textOf};
+ghost use Rattle.decimal.specs.Decimal.{largest};
+ghost use Rattle.text.specs.Marks.{space};
+ghost use Rattle.text.specs.Put.{Put};
 ghost use Rattle.panel.specs.Step.{answerBy};
-ghost use Rattle.lines.specs.Lines.{space, number, kindLetter, levelDigit, outsText, analogText, headerLine, eventLine, loadLine, endLine};
+ghost use Rattle.lines.specs.Lines.{kindLetter, levelDigit, outsText, analogText, headerLine, eventLine, loadLine, endLine};
 ghost use Rattle.lines.specs.LineLaws.{longest};
 ghost use Rattle.lines.specs.Fields.{valueFields, driveFields};
-ghost use Rattle.lines.specs.Put.{Put};
 
 // The letter of an event's kind.
 fn kind_letter(e: Event) -> u8
@@ -37,53 +37,13 @@ fn level_digit(high: bool) -> u8
     b'0'
 }
 
-// Puts bytes.
-fn put_bytes(out: &mut [u8], at: usize, bytes: &[u8]) -> usize
-    requires { ⌜ at + length (now bytes) ≤ length (now out) ⌝ }
-    ensures { λ r. ⌜ Put (now (out .entry)) at (now (bytes .entry)) r (now (out .exit)) ⌝ }
-{
-    let mut i: usize = 0;
-    while i < bytes.len() {
-        out[at + i] = bytes[i];
-        i += 1;
-    }
-    at + i
-}
-
-// Puts the text of z and then one byte.
-fn put_number(out: &mut [u8], at: usize, z: i64, after: u8) -> usize
-    requires { ⌜ (at + 20 ≤ length (now out)) × Within largest z ⌝ }
-    ensures { λ r. ⌜ Put (now (out .entry)) at (textOf z ++ (after ∷ [])) r (now (out .exit)) ⌝ }
-{
-    let n = decimal::write(&mut out[at..], z);
-    let end = at + n;
-    out[end] = after;
-    end + 1
-}
-
-// Puts the text of a number that is not negative and then one byte.
-fn put_natural(out: &mut [u8], at: usize, n: u64, after: u8) -> usize
-    requires { ⌜ (at + 20 ≤ length (now out)) × (n ≤ largest) ⌝ }
-    ensures { λ r. ⌜ Put (now (out .entry)) at (number n ++ (after ∷ [])) r (now (out .exit)) ⌝ }
-{
-    put_number(out, at, n as i64, after)
-}
-
-// Puts the text of a signed word and then one byte.
-fn put_word(out: &mut [u8], at: usize, z: i32, after: u8) -> usize
-    requires { ⌜ at + 20 ≤ length (now out) ⌝ }
-    ensures { λ r. ⌜ Put (now (out .entry)) at (textOf z ++ (after ∷ [])) r (now (out .exit)) ⌝ }
-{
-    put_number(out, at, z as i64, after)
-}
-
 // Puts the letter of an event's kind, and a space.
 fn put_kind(out: &mut [u8], at: usize, e: Event) -> usize
     requires { ⌜ at + 2 ≤ length (now out) ⌝ }
     ensures { λ r. ⌜ Put (now (out .entry)) at (kindLetter e ∷ space ∷ []) r (now (out .exit)) ⌝ }
 {
     let text = [kind_letter(e), b' '];
-    put_bytes(out, at, &text)
+    text::put_bytes(out, at, &text)
 }
 
 // Puts the levels of the outputs, and a space.
@@ -98,7 +58,7 @@ fn put_outs(out: &mut [u8], at: usize, outs: [bool; 4]) -> usize
         level_digit(outs[3]),
         b' ',
     ];
-    put_bytes(out, at, &text)
+    text::put_bytes(out, at, &text)
 }
 
 // Puts the analog code, or off, and a space.
@@ -107,9 +67,9 @@ fn put_analog(out: &mut [u8], at: usize, drive: Drive, code: i32) -> usize
     ensures { λ r. ⌜ Put (now (out .entry)) at (analogText drive code ++ (space ∷ [])) r (now (out .exit)) ⌝ }
 {
     match drive {
-        Drive::Off => put_bytes(out, at, b"off "),
-        Drive::Volts(_) => put_word(out, at, code, b' '),
-        Drive::Milliamps(_) => put_word(out, at, code, b' '),
+        Drive::Off => text::put_bytes(out, at, b"off "),
+        Drive::Volts(_) => text::put_word(out, at, code, b' '),
+        Drive::Milliamps(_) => text::put_word(out, at, code, b' '),
     }
 }
 
@@ -120,9 +80,9 @@ fn put_values(out: &mut [u8], at: usize, l: Live) -> usize
 {
     let reading = l.reading;
     let error = reading.error;
-    let p1 = put_word(out, at, reading.result, b' ');
-    let p2 = put_word(out, p1, l.shown, b' ');
-    put_natural(out, p2, measurement::error_number(error) as u64, b' ')
+    let p1 = text::put_word(out, at, reading.result, b' ');
+    let p2 = text::put_word(out, p1, l.shown, b' ');
+    text::put_natural(out, p2, measurement::error_number(error) as u64, b' ')
 }
 
 // Puts the outputs, the analog code and the note, and ends the line.
@@ -136,7 +96,7 @@ fn put_drives(out: &mut [u8], at: usize, t: &[i32; 104], o: Outcome) -> usize
     let drive = reading.drive;
     let p1 = put_outs(out, at, panel::outputs(t, switches));
     let p2 = put_analog(out, p1, drive, reading.code);
-    put_natural(out, p2, o.note as u64, b'\n')
+    text::put_natural(out, p2, o.note as u64, b'\n')
 }
 
 // Puts the first line, which names the fields.
@@ -144,7 +104,7 @@ pub fn header_line(out: &mut [u8], at: usize) -> usize
     requires { ⌜ at + longest ≤ length (now out) ⌝ }
     ensures { λ r. ⌜ Put (now (out .entry)) at headerLine r (now (out .exit)) ⌝ }
 {
-    put_bytes(out, at, b"event kind result shown error outs analog note\n")
+    text::put_bytes(out, at, b"event kind result shown error outs analog note\n")
 }
 
 // Puts the line of an event, with its count and what it leaves: the table and the outcome beside it.
@@ -159,7 +119,7 @@ pub fn event_line(
     requires { ⌜ (at + longest ≤ length (now out)) × (count ≤ largest) ⌝ }
     ensures { λ r. ⌜ Put (now (out .entry)) at (eventLine count e (answerBy (now (t .entry)) o)) r (now (out .exit)) ⌝ }
 {
-    let p1 = put_natural(out, at, count, b' ');
+    let p1 = text::put_natural(out, at, count, b' ');
     let p2 = put_kind(out, p1, e);
     let l = o.live;
     let p3 = put_values(out, p2, l);
@@ -171,9 +131,9 @@ pub fn load_line(out: &mut [u8], at: usize, refusal: u32, slot: usize) -> usize
     requires { ⌜ (at + longest ≤ length (now out)) × (slot ≤ largest) ⌝ }
     ensures { λ r. ⌜ Put (now (out .entry)) at (loadLine refusal slot) r (now (out .exit)) ⌝ }
 {
-    let p1 = put_bytes(out, at, b"load ");
-    let p2 = put_natural(out, p1, refusal as u64, b' ');
-    put_natural(out, p2, slot as u64, b'\n')
+    let p1 = text::put_bytes(out, at, b"load ");
+    let p2 = text::put_natural(out, p1, refusal as u64, b' ');
+    text::put_natural(out, p2, slot as u64, b'\n')
 }
 
 // Puts the last line.
@@ -181,6 +141,6 @@ pub fn end_line(out: &mut [u8], at: usize, refusal: u8) -> usize
     requires { ⌜ at + longest ≤ length (now out) ⌝ }
     ensures { λ r. ⌜ Put (now (out .entry)) at (endLine refusal) r (now (out .exit)) ⌝ }
 {
-    let p1 = put_bytes(out, at, b"end ");
-    put_natural(out, p1, refusal as u64, b'\n')
+    let p1 = text::put_bytes(out, at, b"end ");
+    text::put_natural(out, p1, refusal as u64, b'\n')
 }

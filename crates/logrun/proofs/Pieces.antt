@@ -9,8 +9,8 @@ use lib.ListN.{length, take, drop, set, take-append-drop, length-take}
 use lib.Seq.{length-take-le, drop-drop, take-suc-set, getD-take, take-all}
 use Rattle.events.specs.Bytes.{wordsIn}
 use Rattle.events.specs.ByteLaws.{wordFrom, words-next, words-done}
-use Rattle.lines.specs.Put.{Put}
-use Rattle.lines.specs.PutLaws.{put-front, put-behind}
+use Rattle.text.specs.Put.{Put}
+use Rattle.text.specs.PutLaws.{put-front, put-behind}
 use Rattle.logrun.specs.declared.Progress.{Progress}
 use Rattle.integers.specs.TwosComplement.{signedOf}
 use Rattle.logrun.specs.Input.{tableBytes}

@@ -15,7 +15,7 @@ ghost use Rattle.events.specs.declared.Taken.the-variants.{Happened};
 ghost use Rattle.events.specs.Bytes.{wordsIn};
 ghost use Rattle.lines.specs.Lines.{endLine};
 ghost use Rattle.lines.specs.LineLaws.{longest};
-ghost use Rattle.lines.specs.Put.{Put};
+ghost use Rattle.text.specs.Put.{Put};
 ghost use Rattle.panel.specs.Load.{loadedOf};
 ghost use Rattle.commands.specs.Valid.{Good};
 ghost use Rattle.logrun.specs.Input.{tableBytes, tableOf};

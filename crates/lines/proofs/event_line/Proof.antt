@@ -2,9 +2,9 @@
 use native.Mathlib.Omega.{arith}
 use lib.IntN.{pos}
 use lib.ListN.{length-append}
-use Rattle.lines.specs.Lines.{space}
+use Rattle.text.specs.Marks.{space}
 use Rattle.lines.specs.LineLaws.{field-at-most-20, values-at-most-60}
-use Rattle.lines.specs.PutLaws.{put-both, put-room}
+use Rattle.text.specs.PutLaws.{put-both, put-room}
 use Rattle.lines.specs.Fields.{line-parts}
 use borrow.Author.Needs.{needs}
 use Rattle.lines.proofs.event_line.Statement.{statement}

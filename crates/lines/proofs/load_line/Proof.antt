@@ -2,9 +2,10 @@
 use mathlib.Core.List.{[], _∷_, _++_, append-assoc}
 use native.Mathlib.Omega.{arith}
 use lib.IntN.{pos}
-use Rattle.lines.specs.Lines.{space, newline, number, loadWord, loadLine}
+use Rattle.text.specs.Marks.{space, newline, number}
+use Rattle.lines.specs.Lines.{loadWord, loadLine}
 use Rattle.lines.specs.LineLaws.{field-at-most-20}
-use Rattle.lines.specs.PutLaws.{put-both, put-room}
+use Rattle.text.specs.PutLaws.{put-both, put-room}
 use borrow.Author.Needs.{needs}
 use Rattle.lines.proofs.load_line.Statement.{statement}
 use Rattle.lines.proofs.load_line.Tie as tie

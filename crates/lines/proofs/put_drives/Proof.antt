@@ -4,7 +4,7 @@ use lib.ListN.{length-append}
 use mir.Syntax.{w32}
 use Rattle.integers.specs.Int.{back-at}
 use Rattle.lines.specs.LineLaws.{analog-at-most-19, analog-field-at-most-20}
-use Rattle.lines.specs.PutLaws.{put-both, put-room}
+use Rattle.text.specs.PutLaws.{put-both, put-room}
 use Rattle.lines.specs.Fields.{driveFields}
 use borrow.Author.Needs.{needs}
 use Rattle.lines.proofs.put_drives.Statement.{statement}

@@ -2,9 +2,9 @@
 use native.Mathlib.Omega.{arith}
 use mir.Syntax.{w32}
 use Rattle.integers.specs.Int.{back-at}
-use Rattle.lines.specs.Lines.{space}
+use Rattle.text.specs.Marks.{space}
 use Rattle.lines.specs.LineLaws.{field-at-most-20, fields-at-most-40}
-use Rattle.lines.specs.PutLaws.{put-both, put-room}
+use Rattle.text.specs.PutLaws.{put-both, put-room}
 use Rattle.lines.specs.Fields.{valueFields}
 use borrow.Author.Needs.{needs}
 use Rattle.lines.proofs.put_values.Statement.{statement}

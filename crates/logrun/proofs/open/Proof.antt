@@ -3,7 +3,7 @@ use mathlib.Core.Path.{sym, _∙_}
 use native.Mathlib.Omega.{arith}
 use borrow.Author.Tests.{eq-eqb, ne-eqb}
 use Rattle.lines.specs.LineLaws.{longest, header-line-at-most, load-line-at-most}
-use Rattle.lines.specs.PutLaws.{put-within}
+use Rattle.text.specs.PutLaws.{put-within}
 use Rattle.logrun.specs.Input.{tableOf}
 use Rattle.logrun.specs.InputLaws.{slot-small}
 use Rattle.logrun.specs.Output.{openingText}

@@ -1,6 +1,6 @@
 -- `logrun::word` meets its contract: behind a refusal nothing happens, and else what the log's word gives picks the case.
 use borrow.Author.Tests.{eq-eqb, ne-eqb}
-use Rattle.lines.specs.PutLaws.{put-none}
+use Rattle.text.specs.PutLaws.{put-none}
 use Rattle.logrun.specs.Progress.{progressOf, afterTaken, textTaken}
 use Rattle.logrun.specs.ProgressLaws.{word-ready, fed-ended, text-ended, fed-by, text-by}
 use borrow.Author.Needs.{needs}

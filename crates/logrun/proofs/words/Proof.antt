@@ -6,7 +6,7 @@ use Prim.Native.Nat.{_+_, _-_, _*_, _≤_}
 use native.Mathlib.Omega.{arith}
 use lib.ListN.{length, take, drop}
 use Rattle.events.specs.Bytes.{wordsIn}
-use Rattle.lines.specs.PutLaws.{put-length}
+use Rattle.text.specs.PutLaws.{put-length}
 use Rattle.logrun.specs.Progress.{progressOf, wordText, wordsFed, wordsText, Ready}
 use Rattle.logrun.specs.ProgressLaws.{word-at-most, fed-done, text-done}
 use Rattle.logrun.proofs.Pieces.{fed-more, text-more, behind-more, all-put}

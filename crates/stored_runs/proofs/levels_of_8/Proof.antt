@@ -2,7 +2,7 @@
 use borrow.Author.Needs.{needs}
 use native.Mathlib.Omega.{arith}
 use Rattle.lines.specs.LineLaws.{longest, event-line-at-most}
-use Rattle.lines.specs.PutLaws.{put-within}
+use Rattle.text.specs.PutLaws.{put-within}
 use Rattle.stored_runs.proofs.levels_of_8.Statement.{statement}
 use Rattle.stored_runs.proofs.levels_of_8.Tie as tie
 

@@ -6,7 +6,7 @@ use native.Mathlib.Omega.{arith}
 use lib.ListN.{length, getD, take, drop, set, length-append, length-drop, drop-of-length-le}
 use lib.Seq.{take-all, drop-drop, drop-cons, set-at, length-take-le}
 use borrow.Rule.Slice.PartMut.{putMid}
-use Rattle.lines.specs.Put.{putAt}
+use Rattle.text.specs.Put.{putAt}
 
 -- the part is lent whole, and nothing lies behind it
 part-all : (out : List ℕ) (at : ℕ) → take (length out - at) (drop at out) ≡ drop at out

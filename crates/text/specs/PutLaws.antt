@@ -6,7 +6,7 @@ use native.Mathlib.Omega.{arith}
 use native.Mathlib.Nat.{add-zero}
 use lib.ListN.{length, take, drop, length-append, length-drop, take-append-drop}
 use lib.Seq.{length-take-le, take-at, drop-at, drop-drop}
-use Rattle.lines.specs.Put.{Put}
+use Rattle.text.specs.Put.{Put}
 
 module _ {buffer after : List ℕ} {at end : ℕ} {text : List ℕ} (p : Put buffer at text end after) (fits : at + length text ≤ length buffer) where
   front : length (take at buffer ++ text) ≡ end

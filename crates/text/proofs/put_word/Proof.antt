@@ -1,4 +1,4 @@
--- `lines::put_word` meets its contract: a word of 32 bits is a number of at most 18 digits.
+-- `text::put_word` meets its contract: a word of 32 bits is a number of at most 18 digits.
 use native.Mathlib.Omega.{arith}
 use lib.IntN.{ℤ}
 use mir.Syntax.{w32, w64}
@@ -6,8 +6,8 @@ use mir.Val.{SFits}
 use mir.Facts.{toZ-ofZ}
 use Rattle.integers.specs.Int.{size, wider, fits-within}
 use borrow.Author.Needs.{needs}
-use Rattle.lines.proofs.put_word.Statement.{statement}
-use Rattle.lines.proofs.put_word.Tie as tie
+use Rattle.text.proofs.put_word.Statement.{statement}
+use Rattle.text.proofs.put_word.Tie as tie
 
 as-wide : {z : ℤ} → SFits w32 z → SFits w64 z
 as-wide f = fits-within {w = w64} (size f) (omega arith)

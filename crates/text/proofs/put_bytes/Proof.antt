@@ -1,12 +1,12 @@
--- `lines::put_bytes` meets its contract. The invariant: the first i bytes stand in the buffer from `at` on. The measure is what is left of them.
+-- `text::put_bytes` meets its contract. The invariant: the first i bytes stand in the buffer from `at` on. The measure is what is left of them.
 use Prim.Native.Nat.{_+_, _-_, _≤_}
 use mathlib.Core.Path.{_≡_, refl, _∙_}
 use native.Mathlib.Omega.{arith}
 use native.Mathlib.Numerals.{add-one}
 use lib.ListN.{length, getD, length-set}
 use lib.Seq.{paste, paste-zero, paste-suc, take-all}
-use Rattle.lines.proofs.put_bytes.Statement.{statement}
-use Rattle.lines.proofs.put_bytes.Tie as tie
+use Rattle.text.proofs.put_bytes.Statement.{statement}
+use Rattle.text.proofs.put_bytes.Tie as tie
 
 abbrev Inv-loop : tie.InvT-loop
 Inv-loop out₀ at bytes i₀ out i = (i ≤ length bytes) × (length out ≡ length out₀) × (out ≡ paste out₀ at bytes i)

@@ -1,4 +1,4 @@
--- `lines::put_number` meets its contract: the number is written in the part of the buffer from `at` on, and the byte behind it.
+-- `text::put_number` meets its contract: the number is written in the part of the buffer from `at` on, and the byte behind it.
 use Prim.Native.Nat.{_+_, _<_}
 use mathlib.Core.Path.{_≡_}
 use native.Mathlib.Omega.{arith}
@@ -7,10 +7,10 @@ use mir.Syntax.{w64}
 use mir.Facts.{toZ-ofZ}
 use Rattle.decimal.specs.Decimal.{textOf}
 use Rattle.decimal.specs.DecimalLaws.{text-at-most-19}
-use Rattle.lines.proofs.Parts.{number-put}
+use Rattle.text.proofs.Parts.{number-put}
 use borrow.Author.Needs.{needs}
-use Rattle.lines.proofs.put_number.Statement.{statement}
-use Rattle.lines.proofs.put_number.Tie as tie
+use Rattle.text.proofs.put_number.Statement.{statement}
+use Rattle.text.proofs.put_number.Tie as tie
 
 -- how many bytes were written
 written : (c : tie.After-slice-known2) → c .before .before .write .result ≡ length (textOf (c .before .before .before .before .before .args .z))

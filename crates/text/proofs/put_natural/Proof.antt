@@ -1,10 +1,10 @@
--- `lines::put_natural` meets its contract: the number is its own signed word.
+-- `text::put_natural` meets its contract: the number is its own signed word.
 use native.Mathlib.Omega.{arith}
 use mir.Syntax.{w64}
 use mir.Facts.{toZ-pos}
 use borrow.Author.Needs.{needs}
-use Rattle.lines.proofs.put_natural.Statement.{statement}
-use Rattle.lines.proofs.put_natural.Tie as tie
+use Rattle.text.proofs.put_natural.Statement.{statement}
+use Rattle.text.proofs.put_natural.Tie as tie
 
 cast-put-number : tie.Need-cast-put-number
 cast-put-number c = search needs
