@@ -4,14 +4,12 @@ use mathlib.Core.Path.{_≡_}
 use mathlib.Core.List.{List, [], _∷_, _++_, append-assoc, append-nil}
 use native.Mathlib.Omega.{arith}
 use lib.ListN.{length, getD, take, drop, set, length-append, length-drop, drop-of-length-le}
-use lib.Seq.{take-all, drop-drop, drop-cons, set-at, length-take-le}
+use lib.Seq.{drop-drop, drop-cons, set-at, length-take-le}
 use borrow.Rule.Slice.PartMut.{putMid}
 use Rattle.text.specs.Put.{putAt}
+use Rattle.text.specs.WordLaws.{part-all}
 
--- the part is lent whole, and nothing lies behind it
-part-all : (out : List ℕ) (at : ℕ) → take (length out - at) (drop at out) ≡ drop at out
-part-all out at = take-all (length out - at) (drop at out) (omega (arith, length-drop at out))
-
+-- nothing lies behind the part that is lent
 part-last : (out : List ℕ) (at : ℕ) → drop (length out - at) (drop at out) ≡ []
 part-last out at =
     let l : length (drop at out) ≤ length out - at = omega (arith, length-drop at out) in

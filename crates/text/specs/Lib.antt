@@ -2,3 +2,11 @@
 pub mod Marks
 pub mod Put
 pub mod PutLaws
+pub mod Words
+pub mod Reading
+pub mod WordLaws
+pub mod Plain
+pub mod PlainLaws
+pub mod Hex
+pub mod HexLaws
+pub mod HexBack

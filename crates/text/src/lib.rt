@@ -9,6 +9,9 @@ ghost use Rattle.decimal.specs.Decimal.{largest, textOf};
 ghost use Rattle.text.specs.Marks.{number};
 ghost use Rattle.text.specs.Put.{Put};
 
+pub mod hex;
+pub mod words;
+
 // Puts bytes.
 pub fn put_bytes(out: &mut [u8], at: usize, bytes: &[u8]) -> usize
     requires { ⌜ at + length (now bytes) ≤ length (now out) ⌝ }
