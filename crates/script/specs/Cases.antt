@@ -1,0 +1,77 @@
+-- Lines by computing: one of each kind, and lines that are none.
+use mathlib.Core.Path.{_≡_, refl}
+use mathlib.Core.List.{[], _∷_}
+use lib.IntN.{negsuc}
+use Rattle.decimal.specs.Decimal.{digitsIn, digitsOf, textOf, valueFrom, numberIn, sameText, parsedOf}
+use Rattle.text.specs.Words.{partsOf, wordsOf, trimmedOf}
+use Rattle.text.specs.Hex.{hexDigit, allHex, isHex, hexFrom, hexLetter, spacedPairs, hexText}
+use Rattle.script.specs.Commands.{naturalIn, naturalBy, naturalOf, signedIn, signedBy, signedOf, slotOf, startOf, telegramOf, levelsOf, allPairs, isFrame, pairsOf, framedOf, namedIn, meaningOf, frameIn, frameOf, commandOf}
+use Rattle.script.specs.declared.Command.the-variants.{Blank, Wrong, Slot, Start, Telegram, Levels, Frame}
+
+-- `  t  1aF` and a carriage return
+telegram-line : commandOf (32 ∷ 32 ∷ 116 ∷ 32 ∷ 32 ∷ 49 ∷ 97 ∷ 70 ∷ 13 ∷ []) ≡ Telegram 0x1AF
+unfolding commandOf trimmedOf wordsOf partsOf meaningOf namedIn sameText telegramOf isHex allHex hexFrom hexDigit
+telegram-line = refl
+
+-- `t` alone, and `t 1 2`
+bare-telegram : commandOf (116 ∷ []) ≡ Wrong 6
+unfolding commandOf trimmedOf wordsOf partsOf meaningOf namedIn sameText telegramOf isHex allHex hexFrom hexDigit
+bare-telegram = refl
+
+two-telegrams : commandOf (116 ∷ 32 ∷ 49 ∷ 32 ∷ 50 ∷ []) ≡ Wrong 6
+unfolding commandOf trimmedOf wordsOf partsOf meaningOf namedIn sameText telegramOf isHex allHex hexFrom hexDigit
+two-telegrams = refl
+
+-- `i 255` and `i 256`
+levels-line : commandOf (105 ∷ 32 ∷ 50 ∷ 53 ∷ 53 ∷ []) ≡ Levels 255
+unfolding commandOf trimmedOf wordsOf partsOf meaningOf namedIn sameText levelsOf naturalOf naturalBy naturalIn parsedOf numberIn valueFrom textOf digitsOf digitsIn
+levels-line = refl
+
+levels-over : commandOf (105 ∷ 32 ∷ 50 ∷ 53 ∷ 54 ∷ []) ≡ Wrong 7
+unfolding commandOf trimmedOf wordsOf partsOf meaningOf namedIn sameText levelsOf naturalOf naturalBy naturalIn parsedOf numberIn valueFrom textOf digitsOf digitsIn
+levels-over = refl
+
+-- `slot 3 -2`
+slot-line : commandOf (115 ∷ 108 ∷ 111 ∷ 116 ∷ 32 ∷ 51 ∷ 32 ∷ 45 ∷ 50 ∷ []) ≡ Slot 3 (negsuc 1)
+unfolding commandOf trimmedOf wordsOf partsOf meaningOf namedIn sameText slotOf naturalOf naturalBy naturalIn signedOf signedBy signedIn parsedOf numberIn valueFrom textOf digitsOf digitsIn
+slot-line = refl
+
+-- `start` and `start 1`
+start-line : commandOf (115 ∷ 116 ∷ 97 ∷ 114 ∷ 116 ∷ []) ≡ Start
+unfolding commandOf trimmedOf wordsOf partsOf meaningOf namedIn sameText startOf
+start-line = refl
+
+start-more : commandOf (115 ∷ 116 ∷ 97 ∷ 114 ∷ 116 ∷ 32 ∷ 49 ∷ []) ≡ Wrong 5
+unfolding commandOf trimmedOf wordsOf partsOf meaningOf namedIn sameText startOf
+start-more = refl
+
+-- `f` alone is a frame of no bytes, `f 01 fF` one of two; `f 1` is none
+empty-frame : commandOf (102 ∷ []) ≡ Frame
+unfolding commandOf trimmedOf wordsOf partsOf meaningOf namedIn sameText framedOf isFrame allPairs
+empty-frame = refl
+
+frame-line : frameOf (102 ∷ 32 ∷ 48 ∷ 49 ∷ 32 ∷ 102 ∷ 70 ∷ []) ≡ 1 ∷ 255 ∷ []
+unfolding frameOf frameIn trimmedOf wordsOf partsOf isFrame allPairs pairsOf isHex allHex hexFrom hexDigit
+frame-line = refl
+
+half-pair : commandOf (102 ∷ 32 ∷ 49 ∷ []) ≡ Wrong 9
+unfolding commandOf trimmedOf wordsOf partsOf meaningOf namedIn sameText framedOf isFrame allPairs isHex allHex hexDigit
+half-pair = refl
+
+-- a remark, spaces alone, and `T 1`, whose word is in upper case
+remark : commandOf (35 ∷ 32 ∷ 116 ∷ []) ≡ Blank
+unfolding commandOf trimmedOf
+remark = refl
+
+spaces : commandOf (32 ∷ 32 ∷ []) ≡ Blank
+unfolding commandOf trimmedOf wordsOf partsOf meaningOf
+spaces = refl
+
+upper-word : commandOf (84 ∷ 32 ∷ 49 ∷ []) ≡ Wrong 2
+unfolding commandOf trimmedOf wordsOf partsOf meaningOf namedIn sameText
+upper-word = refl
+
+-- the bytes 1 and 171 as `01 AB`
+pairs-written : hexText (1 ∷ 171 ∷ []) ≡ 48 ∷ 49 ∷ 32 ∷ 65 ∷ 66 ∷ []
+unfolding hexText spacedPairs hexLetter
+pairs-written = refl

@@ -1,0 +1,11 @@
+-- The modules of this crate's definitions and laws, in the order in which to read them.
+pub mod Commands
+pub mod Collector
+pub mod Messages
+pub mod NumberLaws
+pub mod FrameLaws
+pub mod MessageLaws
+pub mod LimitLaws
+pub mod PlainLaws
+pub mod CollectorLaws
+pub mod Cases
