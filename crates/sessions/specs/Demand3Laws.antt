@@ -1,0 +1,92 @@
+-- DEMAND 3 OVER SESSIONS, proved: along a session the panel stays the one after its run. An event goes one step further in both, a write carried out begins
+-- both anew, and any other frame leaves both alone; so what `runs` proves of every list of events holds of the session's run.
+use mathlib.Core.Path.{_≡_, refl, sym, ap, _∙_}
+use mathlib.Core.Bool.{Bool, true, false, cond}
+use mathlib.Core.List.{List, [], _∷_, _++_}
+use Prim.Native.Nat.{ℕ}
+use native.Mathlib.Omega.{arith}
+use lib.IntN.{ℤ}
+use Rattle.commands.specs.declared.state.State.{State}
+use Rattle.commands.specs.State.{freshOf}
+use Rattle.events.specs.declared.Event.{Event}
+use Rattle.integers.specs.Choice.{by-test}
+use Rattle.panel.specs.declared.Loaded.{Loaded}
+use Rattle.panel.specs.Load.{loadedOf}
+use Rattle.panel.specs.Step.{answerOf, stepOf}
+use Rattle.parameters.specs.Load.{loadNumber, loadOf}
+use Rattle.parameters.specs.LoadLaws.{answer-number, answer-table}
+use Rattle.registers.specs.Serve.{servedOf}
+use Rattle.registers.specs.ServeLaws.{Afresh, still, afresh}
+use Rattle.registers.specs.Start.{isNode, startedOf}
+use Rattle.runs.specs.Demand3Laws.{demand3}
+use Rattle.runs.specs.Run.{runOf, lastAnswer}
+use Rattle.runs.specs.RunLaws.{last-state}
+use Rattle.sessions.specs.Session.{Entry, event, frame, Run, begun, entered, sessionOf, continued, runIn}
+use Rattle.sessions.specs.Demand3.{lastRun, SessionDemand, Started, Demanded}
+
+-- one event more at the end of a run
+run-on : (s : State) (es : List Event) (e : Event) → runOf s (es ++ (e ∷ [])) ≡ stepOf (runOf s es) e .state
+unfolding runOf
+run-on s [] e = refl
+run-on s (d ∷ es) e = run-on (stepOf s d .state) es e
+
+-- the state in which a run ends is the one that its last answer carries
+last-run : (r : Run) → runOf (freshOf (r .table)) (r .events) ≡ lastAnswer (r .table) (r .events) .state
+unfolding answerOf
+last-run r = sym (last-state (answerOf (freshOf (r .table)) 0) (r .events))
+
+-- the panel is the one after the run, whose table loads
+record Follows (s : State) (r : Run) : Type 0 where
+  loads : loadNumber (r .table) ≡ 0
+  panel : s ≡ runOf (freshOf (r .table)) (r .events)
+
+-- and stays it
+module _ (node : ℕ) (s : State) (r : Run) (h : Follows s r) where
+  follows-event : (e : Event) → Follows (entered node s (event e)) (continued node s r (event e))
+  unfolding entered continued
+  follows-event e = record { loads = h .loads; panel = ap (λ (x : State). stepOf x e .state) (h .panel) ∙ sym (run-on (freshOf (r .table)) (r .events) e) }
+
+  follows-frame : (f : List ℕ) (b : Bool) → servedOf node s f .afresh ≡ b → Follows (servedOf node s f .state) (cond b (begun (servedOf node s f .state .table)) r)
+  unfolding runOf
+  follows-frame f true e = let a = afresh node s f e in record { loads = a .loads; panel = a .fresh }
+  follows-frame f false e = record { loads = h .loads; panel = still node s f e ∙ h .panel }
+
+  follows : (x : Entry) → Follows (entered node s x) (continued node s r x)
+  unfolding entered continued
+  follows (event e) = follows-event e
+  follows (frame f) = follows-frame f (servedOf node s f .afresh) refl
+
+follows-all : (node : ℕ) (s : State) (r : Run) → Follows s r → (xs : List Entry) → Follows (sessionOf node s xs) (runIn node s r xs)
+unfolding sessionOf runIn
+follows-all node s r h [] = h
+follows-all node s r h (x ∷ xs) = follows-all node (entered node s x) (continued node s r x) (follows node s r h x) xs
+
+-- what starts: the table loads, and the panel is its fresh state
+start-loads : (node : ℕ) (t : List ℤ) → startedOf node t .number ≡ 0 → loadNumber t ≡ 0
+unfolding startedOf loadedOf
+start-loads node t =
+    by-test (isNode node) (loadedOf t) _ (λ (l : Loaded). l .number ≡ 0 → loadNumber t ≡ 0)
+    (λ _ e. sym (answer-number t) ∙ e)
+    (λ _ e. absurd (omega arith))
+
+start-fresh : (node : ℕ) (t : List ℤ) → startedOf node t .number ≡ 0 → startedOf node t .state ≡ freshOf t
+unfolding startedOf loadedOf
+start-fresh node t =
+    by-test (isNode node) (loadedOf t) _ (λ (l : Loaded). l .number ≡ 0 → l .state ≡ freshOf t)
+    (λ _ e. ap freshOf (answer-table t (sym (answer-number t) ∙ e)))
+    (λ _ e. absurd (omega arith))
+
+-- every session
+session-demand : (node : ℕ) (t : List ℤ) → loadNumber t ≡ 0 → (xs : List Entry) → SessionDemand node t xs
+unfolding runOf
+session-demand node t e xs =
+    let h = follows-all node (freshOf t) (begun t) (record { loads = e; panel = refl }) xs in
+    record {
+      loads = h .loads;
+      panel = h .panel;
+      answered = h .panel ∙ last-run (lastRun node t xs);
+      demand = demand3 (lastRun node t xs .table) (h .loads) (lastRun node t xs .events);
+    }
+
+pub demanded : Demanded
+demanded node t e = record { fresh = start-fresh node t e; sessions = session-demand node t (start-loads node t e) }

@@ -1,0 +1,43 @@
+-- A session is a list of events and frames from a start. Request K2, "A write carried out ends a run of demand 3 and begins a new one".
+-- Main property (Demand3Laws): the panel after a session is the one after the run that it is in.
+use mathlib.Core.Bool.{cond}
+use mathlib.Core.List.{List, [], _∷_, _++_}
+use Prim.Native.Nat.{ℕ}
+use lib.IntN.{ℤ}
+use Rattle.commands.specs.declared.state.State.{State}
+use Rattle.events.specs.declared.Event.{Event}
+use Rattle.panel.specs.Step.{stepOf}
+use Rattle.registers.specs.Serve.{servedOf}
+
+-- what reaches a panel: an event, or the bytes of a frame
+pub data Entry : Type 0 where
+  event : Event → Entry
+  frame : List ℕ → Entry
+
+-- the panel after an entry, and after a list of them; each gets the state that the last one left
+unfoldable pub entered : ℕ → State → Entry → State
+entered node s (event e) = stepOf s e .state
+entered node s (frame f) = servedOf node s f .state
+
+unfoldable pub sessionOf : ℕ → State → List Entry → State
+sessionOf node s [] = s
+sessionOf node s (x ∷ xs) = sessionOf node (entered node s x) xs
+
+-- a run: the table in force when it began, and its events since
+pub record Run : Type 0 where
+  pub table : List ℤ
+  pub events : List Event
+
+-- the run of a table that has just begun
+abbrev pub begun : List ℤ → Run
+begun t = record { table = t; events = [] }
+
+-- an event belongs to the run; a write carried out "ends a run .. and begins a new one", and no other frame does anything to it
+unfoldable pub continued : ℕ → State → Run → Entry → Run
+continued node s r (event e) = record { table = r .table; events = r .events ++ (e ∷ []) }
+continued node s r (frame f) = cond (servedOf node s f .afresh) (begun (servedOf node s f .state .table)) r
+
+-- the run that a session is in at its end
+unfoldable pub runIn : ℕ → State → Run → List Entry → Run
+runIn node s r [] = r
+runIn node s r (x ∷ xs) = runIn node (entered node s x) (continued node s r x) xs
