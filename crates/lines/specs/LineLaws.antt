@@ -1,19 +1,23 @@
 -- No line has more than 128 bytes.
+use mathlib.Core.Path.{_≡_, refl}
+use mathlib.Core.Bool.{Bool, true, false, cond}
 use mathlib.Core.List.{[], _∷_, _++_}
-use Prim.Native.Nat.{ℕ, _≤_}
+use Prim.Native.Nat.{ℕ, _+_, _≤_}
 use native.Mathlib.Omega.{arith}
+use borrow.Author.Tests.{ltb-true}
+use lib.Dec.{ltb}
 use lib.IntN.{ℤ, pos}
 use lib.ListN.{length, length-append}
 use Rattle.analog.specs.declared.Drive.{Drive}
 use Rattle.analog.specs.declared.Drive.the-variants.{Off, Volts, Milliamps}
 use Rattle.commands.specs.declared.state.Live.{Live}
-use Rattle.decimal.specs.Decimal.{textOf}
+use Rattle.decimal.specs.Decimal.{largest, textOf}
 use Rattle.decimal.specs.DecimalLaws.{text-at-most-19}
 use Rattle.events.specs.declared.Event.{Event}
 use Rattle.measurement.specs.Measure.{errorNumber}
 use Rattle.panel.specs.declared.Answer.{Answer}
 use Rattle.text.specs.Marks.{space}
-use Rattle.lines.specs.Lines.{analogText, codeIn, headerLine, eventLine, loadLine, endLine}
+use Rattle.lines.specs.Lines.{analogText, codeIn, headerLine, eventLine, counted, loadLine, endLine}
 use Rattle.lines.specs.Fields.{valueFields}
 
 -- the most bytes that a line has
@@ -68,3 +72,12 @@ load-line-at-most refusal slot = simp length-append (omega (arith, text-at-most-
 pub end-line-at-most : (refusal : ℕ) → length (endLine refusal) ≤ longest
 unfolding endLine
 end-line-at-most refusal = simp length-append (omega (arith, text-at-most-19 (pos refusal)))
+
+-- a count that can be printed stays one
+pub counted-range : (n : ℕ) → n ≤ largest → counted n ≤ largest
+unfolding counted
+counted-range n h = by (ltb n largest) refl
+  where
+    by : (b : Bool) → ltb n largest ≡ b → cond b (n + 1) largest ≤ largest
+    by true e = omega (arith, ltb-true n largest e)
+    by false e = omega arith

@@ -1,13 +1,14 @@
 -- The lines that panelrun prints, as bytes: fields parted by one space, and one newline at the end.
 -- Paper 01, "panelrun and its log", the printed example and the paragraph after it. Assumes nothing.
-use mathlib.Core.Bool.{Bool, true, false}
+use mathlib.Core.Bool.{Bool, true, false, cond}
 use mathlib.Core.List.{List, [], _∷_, _++_}
-use Prim.Native.Nat.{ℕ}
+use Prim.Native.Nat.{ℕ, _+_}
+use lib.Dec.{ltb}
 use lib.IntN.{ℤ}
 use lib.ListN.{getD}
 use Rattle.analog.specs.declared.Drive.{Drive}
 use Rattle.analog.specs.declared.Drive.the-variants.{Off, Volts, Milliamps}
-use Rattle.decimal.specs.Decimal.{textOf}
+use Rattle.decimal.specs.Decimal.{largest, textOf}
 use Rattle.events.specs.declared.Event.{Event}
 use Rattle.events.specs.declared.Event.the-variants.{Telegram, Levels, Tick}
 use Rattle.measurement.specs.Measure.{errorNumber}
@@ -101,6 +102,11 @@ eventLine count e a =
     ∷ analogText (a .drive) (codeIn a)
     ∷ number (a .note)
     ∷ [])
+
+-- "Events are counted from 1, refused ones too": the count after one more event. It stays at the largest number that is printed,
+-- 10 ^ 18 − 1, which no run reaches
+unfoldable pub counted : ℕ → ℕ
+counted n = cond (ltb n largest) (n + 1) largest
 
 -- ---- the lines of a refused table and of the end
 

@@ -12,7 +12,7 @@ ghost use Rattle.decimal.specs.Decimal.{largest};
 ghost use Rattle.text.specs.Marks.{space};
 ghost use Rattle.text.specs.Put.{Put};
 ghost use Rattle.panel.specs.Step.{answerBy};
-ghost use Rattle.lines.specs.Lines.{kindLetter, levelDigit, outsText, analogText, headerLine, eventLine, loadLine, endLine};
+ghost use Rattle.lines.specs.Lines.{kindLetter, levelDigit, outsText, analogText, counted, headerLine, eventLine, loadLine, endLine};
 ghost use Rattle.lines.specs.LineLaws.{longest};
 ghost use Rattle.lines.specs.Fields.{valueFields, driveFields};
 
@@ -97,6 +97,16 @@ fn put_drives(out: &mut [u8], at: usize, t: &[i32; 104], o: Outcome) -> usize
     let p1 = put_outs(out, at, panel::outputs(t, switches));
     let p2 = put_analog(out, p1, drive, reading.code);
     text::put_natural(out, p2, o.note as u64, b'\n')
+}
+
+// The count after one more event; it stays at the largest number that is printed.
+pub fn next_count(n: u64) -> u64
+    ensures { λ r. ⌜ r ≡ counted n ⌝ }
+{
+    if n < 999_999_999_999_999_999 {
+        return n + 1;
+    }
+    999_999_999_999_999_999
 }
 
 // Puts the first line, which names the fields.

@@ -7,13 +7,12 @@ use lib.Dec.{eqb}
 use Rattle.events.specs.declared.Event.{Event}
 use Rattle.events.specs.Log.{Log}
 use Rattle.events.specs.Bytes.{logOfBytes}
-use Rattle.lines.specs.Lines.{headerLine, eventLine, loadLine, endLine}
+use Rattle.lines.specs.Lines.{headerLine, eventLine, counted, loadLine, endLine}
 use Rattle.panel.specs.declared.Loaded.{Loaded}
 use Rattle.commands.specs.declared.state.State.{State}
 use Rattle.panel.specs.Load.{loadedOf}
 use Rattle.panel.specs.Step.{stepOf}
 use Rattle.logrun.specs.Input.{tableOf, logBytes}
-use Rattle.logrun.specs.Progress.{counted}
 
 -- "each gets the state the last returned": the lines of events from a state on, behind so many events
 unfoldable pub linesOf : ℕ → State → List Event → List ℕ

@@ -16,14 +16,14 @@ use Rattle.events.specs.Bytes.{wordsIn, leftOver, logOfBytes}
 use Rattle.events.specs.Log.{wordOf, endOf, Log, before, logFrom}
 use Rattle.events.specs.LogLaws.{log-word, log-end, log-start}
 use Rattle.events.specs.WordLaws.{Reason, word-reason}
-use Rattle.lines.specs.Lines.{headerLine, eventLine, endLine}
+use Rattle.lines.specs.Lines.{headerLine, eventLine, counted, endLine}
 use Rattle.panel.specs.declared.Loaded.{Loaded}
 use Rattle.commands.specs.declared.state.State.{State}
 use Rattle.panel.specs.Load.{loadedOf}
 use Rattle.panel.specs.Step.{stepOf}
 use Rattle.logrun.specs.declared.Progress.{Progress}
 use Rattle.logrun.specs.Input.{tableBytes, tableOf, logBytes}
-use Rattle.logrun.specs.Progress.{counted, startOf, afterTaken, textTaken, wordFed, wordText, wordsFed, wordsText, finishedOf}
+use Rattle.logrun.specs.Progress.{startOf, afterTaken, textTaken, wordFed, wordText, wordsFed, wordsText, finishedOf}
 use Rattle.logrun.specs.Output.{linesOf, runText, openingText, outputOf}
 use Rattle.logrun.specs.InputLaws.{short-input}
 use Rattle.logrun.specs.ProgressLaws.{fed-running, text-running, words-fed-ended, words-text-ended}

@@ -2,8 +2,8 @@
 -- Paper 01, "panelrun and its log" and "Runs". Assumes nothing.
 use mathlib.Core.Bool.{cond}
 use mathlib.Core.List.{List, [], _∷_, _++_}
-use Prim.Native.Nat.{ℕ, _+_, _≤_}
-use lib.Dec.{eqb, ltb}
+use Prim.Native.Nat.{ℕ, _≤_}
+use lib.Dec.{eqb}
 use lib.IntN.{ℤ}
 use Rattle.commands.specs.declared.state.State.{State}
 use Rattle.commands.specs.State.{stateOf}
@@ -13,15 +13,10 @@ use Rattle.events.specs.declared.Pending.{Pending}
 use Rattle.events.specs.declared.Taken.{Taken}
 use Rattle.events.specs.declared.Taken.the-variants.{Happened, Nothing, Refused}
 use Rattle.events.specs.Log.{freshPending, wordOf, endOf}
-use Rattle.lines.specs.Lines.{eventLine}
+use Rattle.lines.specs.Lines.{eventLine, counted}
 use Rattle.panel.specs.Step.{stepOf}
 use Rattle.logrun.specs.declared.Course.{Course}
 use Rattle.logrun.specs.declared.Progress.{Progress}
-
--- "Events are counted from 1, refused ones too": the count after one more event. It stays at the largest number that is printed,
--- 10 ^ 18 − 1, which no run reaches
-unfoldable pub counted : ℕ → ℕ
-counted n = cond (ltb n largest) (n + 1) largest
 
 -- before the first word
 abbrev pub startOf : State → Progress

@@ -4,10 +4,8 @@ use mathlib.Core.Bool.{Bool, true, false, cond}
 use mathlib.Core.List.{List, [], _∷_, _++_}
 use Prim.Native.Nat.{ℕ, _+_, _≤_, _<_}
 use native.Mathlib.Omega.{arith}
-use borrow.Author.Tests.{ltb-true}
-use lib.Dec.{eqb, ltb}
+use lib.Dec.{eqb}
 use lib.ListN.{length, drop}
-use Rattle.decimal.specs.Decimal.{largest}
 use Rattle.events.specs.declared.Pending.{Pending}
 use Rattle.events.specs.declared.Step.{Step}
 use Rattle.events.specs.declared.Taken.{Taken}
@@ -15,20 +13,12 @@ use Rattle.events.specs.declared.Taken.the-variants.{Happened, Nothing, Refused
 use Rattle.events.specs.Bytes.{wordsIn}
 use Rattle.events.specs.ByteLaws.{wordFrom, words-next, words-done}
 use Rattle.events.specs.Log.{wordOf}
-use Rattle.lines.specs.LineLaws.{longest, event-line-at-most}
+use Rattle.lines.specs.Lines.{counted}
+use Rattle.lines.specs.LineLaws.{longest, event-line-at-most, counted-range}
 use Rattle.panel.specs.Step.{stepOf}
 use Rattle.panel.specs.ValidLaws.{good-step}
 use Rattle.logrun.specs.declared.Progress.{Progress}
-use Rattle.logrun.specs.Progress.{counted, afterTaken, textTaken, wordFed, wordText, wordsFed, wordsText, Ready}
-
--- ---- the count
-pub counted-range : (n : ℕ) → n ≤ largest → counted n ≤ largest
-unfolding counted
-counted-range n h = by (ltb n largest) refl
-  where
-    by : (b : Bool) → ltb n largest ≡ b → cond b (n + 1) largest ≤ largest
-    by true e = omega (arith, ltb-true n largest e)
-    by false e = omega arith
+use Rattle.logrun.specs.Progress.{afterTaken, textTaken, wordFed, wordText, wordsFed, wordsText, Ready}
 
 -- ---- one word
 pub taken-ready : {p : Progress} → Ready p → (q : Pending) (t : Taken) → Ready (afterTaken p q t)

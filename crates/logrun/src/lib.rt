@@ -20,7 +20,7 @@ ghost use Rattle.panel.specs.Load.{loadedOf};
 ghost use Rattle.commands.specs.Valid.{Good};
 ghost use Rattle.logrun.specs.Input.{tableBytes, tableOf};
 ghost use Rattle.logrun.specs.Output.{openingText};
-ghost use Rattle.logrun.specs.Progress.{counted, startOf, courseOf, progressOf, afterTaken, textTaken, wordFed, wordText, wordsFed, wordsText, finishedOf, Ready};
+ghost use Rattle.logrun.specs.Progress.{startOf, courseOf, progressOf, afterTaken, textTaken, wordFed, wordText, wordsFed, wordsText, finishedOf, Ready};
 
 // The bytes of a table.
 pub const TABLE_BYTES: usize = 416;
@@ -149,16 +149,6 @@ pub fn open(bytes: &[u8], out: &mut [u8]) -> Opened
     }
 }
 
-// The count after one more event; it stays at the largest number that is printed.
-fn next_count(n: u64) -> u64
-    ensures { λ r. ⌜ r ≡ counted n ⌝ }
-{
-    if n < 999_999_999_999_999_999 {
-        return n + 1;
-    }
-    999_999_999_999_999_999
-}
-
 // A run's course, of its progress.
 fn course_of(p: Progress) -> Course
     ensures { λ r. ⌜ r ≡ courseOf p ⌝ }
@@ -201,7 +191,7 @@ fn event(
     ensures is { λ r. ⌜ progressOf (now (t .exit)) (r .course) ≡ afterTaken (progressOf (now (t .entry)) c) pending (Happened e) ⌝ }
     ensures text { λ r. ⌜ Put (now (out .entry)) at (textTaken (progressOf (now (t .entry)) c) (Happened e)) (r .end) (now (out .exit)) ⌝ }
 {
-    let count = next_count(c.count);
+    let count = lines::next_count(c.count);
     let l = c.live;
     let o = panel::advance(t, l, e);
     let live = o.live;

@@ -2,7 +2,7 @@
 use mathlib.Core.Path.{_≡_, refl, sym, subst, ap, _∙_}
 use mathlib.Core.Bool.{Bool, true, false, cond}
 use mathlib.Core.List.{List, []}
-use Prim.Native.Nat.{ℕ, _*_, _/_, _%_, _^_, _<_}
+use Prim.Native.Nat.{ℕ, _*_, _/_, _%_, _^_, _≤_, _<_}
 use native.Mathlib.Omega.{arith}
 use borrow.Author.Tests.{eqb-true, eq-eqb, ne-eqb, lt-ltb}
 use lib.Dec.{eqb}
@@ -23,7 +23,8 @@ use Rattle.modbus.specs.CrcLaws.{Bytes}
 use Rattle.modbus.specs.Request.{addressIn, isBroken, isWrite, requestIn, shownRegister, isMapped, silent, replied, askedOf}
 use Rattle.modbus.specs.RequestLaws.{one-byte-seen}
 use Rattle.modbus.specs.RoundTripLaws.{read-asked, write-asked, write-asked-of-all}
-use Rattle.modbus.specs.Replies.{readFrame, writeFrame, readReply, writeReply, exceptionReply, packed}
+use Rattle.modbus.specs.Crc.{sealed}
+use Rattle.modbus.specs.Replies.{readFrame, writeFrame, readReply, writeReply, exceptionReply, longestReply, packed}
 use Rattle.panel.specs.declared.Loaded.{Loaded}
 use Rattle.panel.specs.Load.{loadedOf}
 use Rattle.parameters.specs.Load.{loadNumber}
@@ -69,8 +70,32 @@ by-served node s f Q same carried = by-request node s (askedOf node f .reply) (a
 pub good-served : (node : ℕ) {s : State} → Good s → (f : List ℕ) → Good (servedOf node s f .state)
 good-served node {s} g f = by-served node s f (λ (x : Served). Good (x .state)) (λ reply n. g) (λ register z e. good-fresh (loads (writtenTable s register z) e))
 
-pub promised : (node : ℕ) (s : State) (f : List ℕ) (x : Served) → Good s → x ≡ servedOf node s f → (x ≡ servedOf node s f) × Good (x .state)
-promised node s f x g is = (is, subst (λ (y : Served). Good (y .state)) (sym is) (good-served node g f))
+-- every reply fits
+sent-fits : (due : Bool) (reply : Reply) → reply .length ≤ longestReply → sent due reply .length ≤ longestReply
+unfolding sent packed
+sent-fits true reply h = h
+sent-fits false reply h = omega arith
+
+request-fits : (node : ℕ) (s : State) (due : Bool) (q : Request) → requestOf node s due q .reply .length ≤ longestReply
+unfolding requestOf writtenOf packed sealed exceptionReply readReply writeReply
+request-fits node s due Broken = omega arith
+request-fits node s due Ignored = omega arith
+request-fits node s due (Exception function code) = sent-fits due _ (omega arith)
+request-fits node s due (Read register) = sent-fits due _ (omega arith)
+request-fits node s due (Write register z) =
+    by-test (eqb (loadNumber (writtenTable s register z)) 0) _ _ (λ (x : Served). x .reply .length ≤ longestReply) (λ _. sent-fits due _ (omega arith)) (λ _. sent-fits due _ (omega arith))
+
+pub promised : (node : ℕ) (s : State) (f : List ℕ) (x : Served) → Good s → x ≡ servedOf node s f →
+    (x ≡ servedOf node s f) × (Good (x .state) × (x .reply .length ≤ longestReply))
+unfolding servedOf
+promised node s f x g is =
+    (
+      is,
+      (
+        subst (λ (y : Served). Good (y .state)) (sym is) (good-served node g f),
+        subst (λ (y : Served). y .reply .length ≤ longestReply) (sym is) (request-fits node s (askedOf node f .reply) (askedOf node f .request)),
+      ),
+    )
 
 -- A FRAME THAT IS NOT A WRITE CARRIED OUT CHANGES NOTHING AT ALL
 pub still : (node : ℕ) (s : State) (f : List ℕ) → servedOf node s f .afresh ≡ false → servedOf node s f .state ≡ s

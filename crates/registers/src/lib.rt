@@ -9,9 +9,10 @@ use modbus::replies::Reply;
 use panel::Loaded;
 ghost use mathlib.Core.Path.{_≡_};
 ghost use mathlib.Core.List.{[]};
+ghost use Prim.Native.Nat.{_≤_};
 ghost use Rattle.commands.specs.State.{stateOf};
 ghost use Rattle.commands.specs.Valid.{Good};
-ghost use Rattle.modbus.specs.Replies.{packed};
+ghost use Rattle.modbus.specs.Replies.{packed, longestReply};
 ghost use Rattle.parameters.specs.Valid.{Valid};
 ghost use Rattle.registers.specs.Start.{isNode, startedOf};
 ghost use Rattle.registers.specs.Serve.{wordIn, sent, unchangedBy, writtenOf, requestOf, servedOf, servedBy};
@@ -146,6 +147,7 @@ pub fn answer(node: u8, t: &mut [i32; 104], l: Live, frame: &[u8]) -> Response
     requires { ⌜ Good (stateOf (now t) l) ⌝ }
     ensures is { λ r. ⌜ servedBy (now (t .exit)) r ≡ servedOf node (stateOf (now (t .entry)) l) (now (frame .entry)) ⌝ }
     ensures valid { λ r. ⌜ Good (stateOf (now (t .exit)) (r .live)) ⌝ }
+    ensures fits { λ r. ⌜ r .reply .length ≤ longestReply ⌝ }
 {
     let d = modbus::asked(node, frame);
     request(node, t, l, d)

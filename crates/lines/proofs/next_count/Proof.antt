@@ -1,9 +1,9 @@
--- `logrun::next_count` meets its contract: the test is the definition's.
+-- `lines::next_count` meets its contract: the test is the definition's.
 use borrow.Author.Tests.{lt-ltb, le-ltb}
-use Rattle.logrun.specs.Progress.{counted}
+use Rattle.lines.specs.Lines.{counted}
 use borrow.Author.Needs.{needs}
-use Rattle.logrun.proofs.next_count.Statement.{statement}
-use Rattle.logrun.proofs.next_count.Tie as tie
+use Rattle.lines.proofs.next_count.Statement.{statement}
+use Rattle.lines.proofs.next_count.Tie as tie
 
 add-result : tie.Need-add-result
 add-result c = search needs
