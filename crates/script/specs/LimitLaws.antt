@@ -1,7 +1,7 @@
 -- THE NUMBERS OF A COMMAND LIE IN THEIR RANGES: a node address is at most 65535, a slot below 104. Those of levels, ticks and
 -- telegrams fill the types that hold them.
 use mathlib.Core.Path.{_≡_, refl, sym, ap, _∙_}
-use mathlib.Core.Bool.{Bool, true, false, cond, _&&_}
+use mathlib.Core.Bool.{Bool, true, false, cond}
 use mathlib.Core.List.{List, [], _∷_}
 use Prim.Native.Nat.{ℕ, _≤_, _<_}
 use native.Mathlib.Omega.{arith}
@@ -18,7 +18,7 @@ use Rattle.script.specs.declared.Integer.{Integer}
 use Rattle.script.specs.declared.Integer.the-variants.{Word, Other}
 use Rattle.script.specs.declared.Command.{Command}
 use Rattle.script.specs.declared.Command.the-variants.{Blank, Wrong, Node, Slot, Start, Telegram, Levels, Tick, Frame}
-use Rattle.script.specs.Commands.{naturalOf, signedOf, tooLong, badTelegram, badFrame, nodeBy, nodeOf, slotBy, slotOf, startOf, telegramOf, levelsBy, levelsOf, tickBy, tickOf, isFrame, framedOf, Entry, table, namedIn, namedOf, meaningOf, longest, hash, meantOf, commandOf}
+use Rattle.script.specs.Commands.{naturalOf, signedOf, lastNode, lastSlot, tooLong, badTelegram, badFrame, nodeBy, nodeOf, slotBy, slotOf, startOf, telegramOf, levelsBy, levelsOf, tickBy, tickOf, isFrame, framedOf, Entry, table, namedIn, meaningOf, longest, hash, commandOf}
 use Rattle.script.specs.NumberLaws.{count-most}
 
 -- whether the numbers of a command lie in their ranges
@@ -41,18 +41,18 @@ either false a b p q = q
 -- ---- each word of the table
 node-in : (ws : List (List ℕ)) → inRange (nodeOf ws) ≡ true
 unfolding nodeOf inRange
-node-in ws = by (naturalOf 65535 (onlyOf ws)) refl
+node-in ws = by (naturalOf lastNode (onlyOf ws)) refl
   where
-    by : (m : Numeral) → naturalOf 65535 (onlyOf ws) ≡ m → inRange (nodeBy m) ≡ true
-    by (Count n) e = le-leb n 65535 (count-most 65535 (onlyOf ws) n e)
+    by : (m : Numeral) → naturalOf lastNode (onlyOf ws) ≡ m → inRange (nodeBy m) ≡ true
+    by (Count n) e = le-leb n 65535 (omega (arith, count-most lastNode (onlyOf ws) n e))
     by Missing e = refl
 
 slot-in : (ws : List (List ℕ)) → inRange (slotOf ws) ≡ true
 unfolding slotOf inRange
-slot-in ws = by (naturalOf 103 (firstOf ws)) refl (signedOf (onlyOf (othersOf ws)))
+slot-in ws = by (naturalOf lastSlot (firstOf ws)) refl (signedOf (onlyOf (othersOf ws)))
   where
-    by : (m : Numeral) → naturalOf 103 (firstOf ws) ≡ m → (v : Integer) → inRange (slotBy m v) ≡ true
-    by (Count n) e (Word z) = lt-ltb n 104 (omega (arith, count-most 103 (firstOf ws) n e))
+    by : (m : Numeral) → naturalOf lastSlot (firstOf ws) ≡ m → (v : Integer) → inRange (slotBy m v) ≡ true
+    by (Count n) e (Word z) = lt-ltb n 104 (omega (arith, count-most lastSlot (firstOf ws) n e))
     by (Count n) e Other = refl
     by Missing e v = refl
 

@@ -1,10 +1,10 @@
 -- A COMMAND WRITTEN IN ITS PLAIN FORM IS READ BACK: its words parted by one space, its numbers as `decimal` and `text` write them.
 use mathlib.Core.Path.{_≡_, refl, _∙_}
-use mathlib.Core.Bool.{Bool, true}
-use mathlib.Core.List.{List, [], _∷_, _++_}
-use Prim.Native.Nat.{ℕ, _+_, _*_, _^_, _≤_, _<_}
+use mathlib.Core.Bool.{true}
+use mathlib.Core.List.{List, [], _∷_}
+use Prim.Native.Nat.{ℕ, _+_, _^_, _≤_, _<_}
 use native.Mathlib.Omega.{arith}
-use lib.Dec.{eqb, ltb, leb}
+use lib.Dec.{ltb}
 use lib.IntN.{ℤ, pos}
 use lib.ListN.{length, getD, length-append}
 use borrow.Author.Tests.{ltb-true, le-ltb, ne-eqb, le-leb}
@@ -12,7 +12,7 @@ use Rattle.integers.specs.Int.{P, N, Within}
 use Rattle.decimal.specs.Decimal.{largest, textOf, sameText}
 use Rattle.decimal.specs.DigitLaws.{both-true}
 use Rattle.decimal.specs.DecimalLaws.{written-is-read, text-at-most-19}
-use Rattle.text.specs.Plain.{allPlain, Plain, Words, last, more, spoken}
+use Rattle.text.specs.Plain.{allPlain, Words, last, more, spoken}
 use Rattle.text.specs.PlainLaws.{words-back, trimmed-same, text-plain}
 use Rattle.text.specs.Hex.{hexIn, pairWords, allBytes}
 use Rattle.text.specs.HexLaws.{hex-is, spaced-length}

@@ -5,7 +5,7 @@ ghost use mathlib.Core.Path.{_≡_};
 ghost use mathlib.Core.Bool.{true};
 ghost use Rattle.text.specs.Words.{wordsOf};
 ghost use Rattle.text.specs.Hex.{isHex, hexOf};
-ghost use Rattle.script.specs.Commands.{isFrame, pairsOf, frameIn, frameOf, packed};
+ghost use Rattle.script.specs.Commands.{isFrame, pairsOf, frameOf, packed};
 
 // At most 300 bytes.
 pub struct Bytes {
@@ -16,7 +16,7 @@ pub struct Bytes {
 }
 
 // Whether the words of a text are at most 300 pairs of hex digits.
-pub fn is_frame(s: &[u8]) -> bool
+pub(crate) fn is_frame(s: &[u8]) -> bool
     ensures { λ r. ⌜ r ≡ isFrame (wordsOf (now (s .entry))) ⌝ }
 {
     let mut t = s;

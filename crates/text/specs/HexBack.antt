@@ -1,6 +1,6 @@
 -- WHAT IS WRITTEN IN HEX IS READ: a number as k digits, and bytes as two digits each. Upper and lower case are read alike.
 use mathlib.Core.Path.{_≡_, refl, sym, ap, _∙_}
-use mathlib.Core.Bool.{Bool, true, false, cond, _&&_}
+use mathlib.Core.Bool.{Bool, true, false, cond}
 use mathlib.Core.List.{List, [], _∷_, _++_, append-nil}
 use Prim.Native.Nat.{ℕ, zero, suc, _+_, _*_, _/_, _%_, _^_, _<_}
 use native.Mathlib.Omega.{arith}
@@ -11,7 +11,7 @@ use borrow.Author.Tests.{ltb-true, ltb-false, lt-ltb, leb-true}
 use Rattle.decimal.specs.DigitLaws.{both-true}
 use Rattle.text.specs.Marks.{space}
 use Rattle.text.specs.Plain.{allPlain, Plain, Words, last, more, spoken}
-use Rattle.text.specs.Hex.{between, hexDigit, allHex, isHex, hexFrom, hexOf, hexLetter, hexPair, spacedPairs, hexIn, pairWords, allBytes, lowered, loweredAll}
+use Rattle.text.specs.Hex.{between, hexDigit, allHex, isHex, hexFrom, hexOf, hexLetter, hexPair, spacedPairs, hexIn, pairWords, lowered, loweredAll}
 use Rattle.text.specs.HexLaws.{Hex, digit-number, digit-upper, cases-alike}
 
 -- ---- a number

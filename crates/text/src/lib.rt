@@ -1,6 +1,5 @@
 // Texts put into a buffer that the caller lends, at a place, with the place behind them as the answer; and texts taken apart.
 // Uses `decimal` for numbers.
-ghost use mathlib.Core.Path.{_≡_};
 ghost use mathlib.Core.List.{_∷_, [], _++_};
 ghost use Prim.Native.Nat.{_+_, _≤_};
 ghost use lib.ListN.{length};

@@ -1,6 +1,5 @@
 // The words of a text, as parts of it.
 ghost use mathlib.Core.Path.{_≡_};
-ghost use lib.ListN.{length};
 ghost use Rattle.decimal.specs.Decimal.{sameText};
 ghost use Rattle.text.specs.Words.{wordsOf, trimmedOf, onlyOf};
 ghost use Rattle.text.specs.Reading.{unspacedOf, wordLength, wordOf, restOf};
