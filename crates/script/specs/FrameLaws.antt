@@ -1,18 +1,18 @@
--- The bytes of a frame, taken word by word.
+-- The bytes of a frame, taken word by word; and what a caller finds of them: at most 300, at the start of the buffer.
 use mathlib.Core.Path.{_≡_, refl, sym, ap, _∙_}
-use mathlib.Core.Bool.{Bool, true, false, _&&_}
+use mathlib.Core.Bool.{Bool, true, false, cond, _&&_}
 use mathlib.Core.List.{List, [], _∷_, _++_}
 use Prim.Native.Nat.{ℕ, suc, _+_, _-_, _≤_, _<_}
 use native.Mathlib.Omega.{arith}
 use native.Mathlib.Numerals.{add-one}
 use lib.Dec.{leb}
-use lib.ListN.{length, drop, set, replicate, length-set, length-replicate, replicate-append-replicate}
-use lib.Seq.{sets, sets-eq, drop-at}
+use lib.ListN.{length, take, drop, set, replicate, length-set, length-replicate, replicate-append-replicate}
+use lib.Seq.{sets, sets-eq, drop-at, take-append-seam}
 use borrow.Author.Tests.{leb-true, le-leb, lt-leb}
 use Rattle.decimal.specs.DigitLaws.{both-true}
-use Rattle.text.specs.Words.{wordsOf}
+use Rattle.text.specs.Words.{trimmedOf, wordsOf, othersOf}
 use Rattle.text.specs.Hex.{isHex, hexOf}
-use Rattle.script.specs.Commands.{mostBytes, allPairs, isFrame, pairsOf, packed}
+use Rattle.script.specs.Commands.{mostBytes, allPairs, isFrame, pairsOf, frameIn, frameOf, packed}
 use Rattle.text.specs.Reading.{wordOf, restOf}
 use Rattle.text.specs.WordLaws.{no-word, some-word}
 use Rattle.script.specs.declared.frames.Bytes.{Bytes}
@@ -116,3 +116,25 @@ left-none s n bytes t l e =
     let b : bytes ≡ pairsOf (wordsOf s) ++ replicate (mostBytes - length (pairsOf (wordsOf s))) 0 =
     (rw z at (l .stored)) ∙ stored-zeros mostBytes (pairsOf (wordsOf s)) r in
     rw (b, c)
+
+-- ---- what a caller finds in `packed`
+-- A FRAME HAS AT MOST 300 BYTES
+pub frame-fits : (line : List ℕ) → length (frameOf line) ≤ mostBytes
+unfolding frameOf frameIn isFrame
+frame-fits line = by (othersOf (wordsOf (trimmedOf line)))
+  where
+    tested : (ws : List (List ℕ)) (t : Bool) → leb (length ws) mostBytes && allPairs ws ≡ t → length (cond t (pairsOf ws) []) ≤ mostBytes
+    tested ws true e = omega (arith, pairs-length ws, leb-true (length ws) mostBytes (both-true (leb (length ws) mostBytes) (allPairs ws) e .0))
+    tested ws false e = omega arith
+
+    by : (ws : List (List ℕ)) → length (cond (leb (length ws) mostBytes && allPairs ws) (pairsOf ws) []) ≤ mostBytes
+    by ws = tested ws (leb (length ws) mostBytes && allPairs ws) refl
+
+pub packed-length : (l : List ℕ) → packed l .length ≡ length l
+unfolding packed
+packed-length l = refl
+
+-- the first bytes are the list's
+pub packed-bytes : (l : List ℕ) → take (packed l .length) (packed l .bytes) ≡ l
+unfolding packed
+packed-bytes l = take-append-seam l (replicate (mostBytes - length l) 0)

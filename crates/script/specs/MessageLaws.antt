@@ -40,7 +40,3 @@ pub other-message : (kind : ℕ) → (0 < kind → 10 ≤ kind) → messageOf ki
 unfolding messageOf
 other-message zero h = refl
 other-message (suc n) h = List·getD-eq-default messages noPanelText {n = suc n} (omega (arith, h (omega arith)))
-
--- a number that is not below k and is not k
-pub above : (k n : ℕ) → k ≤ n → (n ≡ k → ⊥) → suc k ≤ n
-above k n h e = omega arith

@@ -16,7 +16,7 @@ use Rattle.text.specs.Plain.{allPlain, Words, last, more, spoken}
 use Rattle.text.specs.PlainLaws.{words-back, trimmed-same, text-plain}
 use Rattle.text.specs.Hex.{hexIn, pairWords, allBytes}
 use Rattle.text.specs.HexLaws.{hex-is, spaced-length}
-use Rattle.text.specs.HexBack.{hexin-length, hexin-hex, hexin-word, hexin-back, pair-back, pair-hex, pairs-count, pair-words, pair-text}
+use Rattle.text.specs.HexBackLaws.{hexin-length, hexin-hex, hexin-word, hexin-back, pair-back, pair-hex, pairs-count, pair-words, pair-text}
 use Rattle.script.specs.Commands.{naturalBy, naturalIn, naturalOf, signedBy, signedOf, nodeOf, slotOf, startOf, telegramOf, levelsOf, tickOf, framedOf, mostBytes, allPairs, isFrame, pairsOf, frameIn, frameOf, namedIn, namedOf, meaningOf, longest, hash, commandOf, nodeWord, slotWord, startWord, telegramWord, levelsWord, tickWord, frameWord}
 use Rattle.script.specs.NumberLaws.{signed-word}
 use Rattle.script.specs.declared.Command.the-variants.{Node, Slot, Start, Telegram, Levels, Tick, Frame}

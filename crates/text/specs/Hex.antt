@@ -1,5 +1,5 @@
 -- Hex digits: `0` to `9`, `A` to `F` and `a` to `f`, read in either case and written in upper case. Request K2, "console".
--- Main property: what is written is read (HexBack), and upper and lower case are read alike.
+-- Main property: what is written is read (HexBackLaws), and upper and lower case are read alike.
 use mathlib.Core.Bool.{Bool, true, cond, _&&_}
 use mathlib.Core.List.{List, [], _∷_, _++_}
 use Prim.Native.Nat.{ℕ, zero, suc, _+_, _-_, _*_, _/_, _%_}

@@ -9,4 +9,4 @@ pub mod Plain
 pub mod PlainLaws
 pub mod Hex
 pub mod HexLaws
-pub mod HexBack
+pub mod HexBackLaws

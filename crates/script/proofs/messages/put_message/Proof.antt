@@ -1,9 +1,16 @@
 -- `script::messages::put_message` meets its contract: each arm puts the text of its reason.
+use mathlib.Core.Path.{_≡_}
+use Prim.Native.Nat.{ℕ, suc, _≤_}
+use native.Mathlib.Omega.{arith}
 use Rattle.script.specs.Messages.{messageOf}
-use Rattle.script.specs.MessageLaws.{above, other-message}
+use Rattle.script.specs.MessageLaws.{other-message}
 use borrow.Author.Needs.{needs}
 use Rattle.script.proofs.messages.put_message.Statement.{statement}
 use Rattle.script.proofs.messages.put_message.Tie as tie
+
+-- a number that is not below k and is not k
+above : (k n : ℕ) → k ≤ n → (n ≡ k → ⊥) → suc k ≤ n
+above k n h e = omega arith
 
 slice-aggregate-put-bytes : tie.Need-slice-aggregate-put-bytes
 slice-aggregate-put-bytes c = search needs
