@@ -61,6 +61,14 @@ cut-alike p = by (ltb most (length p)) refl
         long-wrong (take most p) (omega (arith, length-take-le most p (omega arith))) ∙ sym (long-wrong p (omega arith))
     by false e = ap commandOf (take-all most p (ltb-false most (length p) e))
 
+-- a line that is not too long is not cut, so that its frame's bytes are all there
+pub cut-whole : (p : List ℕ) → (commandOf p ≡ Wrong tooLong → ⊥) → take most p ≡ p
+cut-whole p n = by (ltb most (length p)) refl
+  where
+    by : (t : Bool) → ltb most (length p) ≡ t → take most p ≡ p
+    by true e = let h = ltb-true most (length p) e in absurd (n (long-wrong p (omega arith)))
+    by false e = take-all most p (ltb-false most (length p) e)
+
 -- ---- one line
 -- the bytes p of a line have come, and no newline yet
 record Reached (c : Collector) (p : List ℕ) : Type 0 where
