@@ -4,3 +4,5 @@ pub mod Collector
 pub mod EndLaws
 pub mod PieceLaws
 pub mod CollectorLaws
+pub mod HeardLaws
+pub mod PassedLaws
