@@ -1,5 +1,6 @@
 // Finding frames on a serial line: the bytes are collected, by value, until they are a whole frame, or until silence.
 // Uses `modbus` for what a frame is.
+use modbus::words;
 ghost use mathlib.Core.Path.{_≡_};
 ghost use Prim.Native.Nat.{_≤_, _<_};
 ghost use lib.ListN.{length, drop};
@@ -49,7 +50,7 @@ fn reply_long(f: &[u8]) -> bool
         if f.len() <= 5 {
             return false;
         }
-        return f.len() == 5 + wide(f[2]);
+        return f.len() == 5 + words::wide(f[2]);
     }
     if function == modbus::WRITE {
         return f.len() == 8;
@@ -58,13 +59,6 @@ fn reply_long(f: &[u8]) -> bool
         return false;
     }
     f.len() == 5
-}
-
-// A byte as a number of bytes.
-fn wide(b: u8) -> usize
-    ensures { λ r. ⌜ r ≡ b ⌝ }
-{
-    b as usize
 }
 
 // Whether the bytes are a whole reply. The length is tested first: it spares the CRC of a reply that grows.

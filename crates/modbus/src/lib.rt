@@ -2,7 +2,7 @@
 // Uses `integers` for signed words.
 pub mod checksum; // checksum.rt: the CRC
 pub mod replies; // replies.rt: the bytes of a reply
-mod words; // words.rt: numbers of 16 bits and their bytes
+pub mod words; // words.rt: numbers of 16 bits and their bytes
 
 use integers::twos_complement;
 ghost use mathlib.Core.Bool.{false};
