@@ -37,23 +37,13 @@ pub fn read_reply(node: u8, z: i32) -> Reply
 pub fn write_reply(node: u8, register: u16) -> Reply
     ensures { λ r. ⌜ r ≡ packed (writeReply node register) ⌝ }
 {
-    let start_high = words::high_byte(register);
-    let start_low = words::low_byte(register);
-    let body = [node, crate::WRITE, start_high, start_low, 0, 2];
+    let b0 = words::high_byte(register);
+    let b1 = words::low_byte(register);
+    let body = [node, crate::WRITE, b0, b1, 0, 2];
     let c = checksum::crc(&body);
     let low = words::low_byte(c);
     let high = words::high_byte(c);
-    let bytes = [
-        node,
-        crate::WRITE,
-        start_high,
-        start_low,
-        0,
-        2,
-        low,
-        high,
-        0,
-    ];
+    let bytes = [node, crate::WRITE, b0, b1, 0, 2, low, high, 0];
     Reply { bytes, length: 8 }
 }
 
