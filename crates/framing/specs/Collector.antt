@@ -3,7 +3,7 @@
 -- Bytes are held until they end a frame. Whatever ends none goes on until silence, and is the frame then: so a broken frame takes all with it up to there,
 -- and so does one of more than 256 bytes, of which 257 are held.
 -- Main property: how the bytes are cut into pieces does not matter (PieceLaws, `fed-pieces` and `heard-pieces`).
-use mathlib.Core.Bool.{Bool, true, false, cond}
+use mathlib.Core.Bool.{true, false, cond}
 use mathlib.Core.List.{List, [], _∷_}
 use Prim.Native.Nat.{ℕ, _+_}
 use lib.Dec.{eqb, ltb, leb}

@@ -12,7 +12,7 @@ use lib.ListN.{length, getD, take}
 use lib.Seq.{getD-take, length-take-le}
 use Rattle.integers.specs.TestLaws.{and-both}
 use Rattle.modbus.specs.Request.{addressIn, functionIn, readFunction, writeFunction, isRead, isWrite, mostBytes, crcRight, isBroken, isUnknown}
-use Rattle.modbus.specs.WholeLaws.{Whole, whole, long-broken}
+use Rattle.modbus.specs.WholeLaws.{Whole, whole}
 use Rattle.framing.specs.Ends.{isRequest, isReplyLong, isReply, isForeign, stops}
 
 -- ---- requests

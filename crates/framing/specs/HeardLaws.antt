@@ -19,7 +19,7 @@ use Rattle.modbus.specs.RoundTripLaws.{read-whole, write-whole, read-asked, wri
 use Rattle.framing.specs.declared.Collector.{Collector}
 use Rattle.framing.specs.Ends.{isRequest, isForeign, stops}
 use Rattle.framing.specs.EndLaws.{request-whole, no-shorter, foreign-same, own-stops}
-use Rattle.framing.specs.Collector.{mostHeld, fed, heard}
+use Rattle.framing.specs.Collector.{fed, heard}
 use Rattle.framing.specs.PieceLaws.{heard-pieces}
 use Rattle.framing.specs.CollectorLaws.{Holds, stop-heard}
 

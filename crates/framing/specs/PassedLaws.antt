@@ -7,14 +7,14 @@ use mathlib.Core.List.{List, [], _∷_, _++_}
 use mathlib.Core.Logic.{_⊎_, inl, inr}
 use Prim.Native.Nat.{ℕ, _+_, _/_, _≤_, _<_}
 use native.Mathlib.Omega.{arith}
-use borrow.Author.Tests.{eq-eqb, ne-eqb, le-leb}
+use borrow.Author.Tests.{ne-eqb, le-leb}
 use lib.Bits.{bitOr, or-add-and, and-le-l}
 use lib.IntN.{ℤ}
 use lib.ListN.{length, getD, take}
 use lib.Seq.{getD-take, length-take-le}
 use Rattle.modbus.specs.Crc.{sealed}
 use Rattle.modbus.specs.Words.{numberBytes, wordBytes}
-use Rattle.modbus.specs.Request.{addressIn, functionIn, readFunction, writeFunction, countIn, crcRight}
+use Rattle.modbus.specs.Request.{addressIn, functionIn, readFunction, writeFunction}
 use Rattle.modbus.specs.Replies.{readFrame, writeFrame, writeReply, exceptionReply, readReply}
 use Rattle.modbus.specs.RoundTripLaws.{sealed-right}
 use Rattle.framing.specs.declared.Collector.{Collector}

@@ -5,15 +5,15 @@ ghost use mathlib.Core.Path.{_≡_};
 ghost use Prim.Native.Nat.{_≤_, _<_};
 ghost use lib.ListN.{length, drop};
 ghost use Rattle.framing.specs.Ends.{isRequest, isReplyLong, isReply, isForeign};
-ghost use Rattle.framing.specs.Collector.{heldLength, emptied, closed, freshCollector, judged, added, kept, pushed, quieted, fedTo};
+ghost use Rattle.framing.specs.Collector.{mostHeld, heldLength, emptied, closed, freshCollector, judged, added, kept, pushed, quieted, fedTo};
 
 // The bytes that are held at most: one more than a frame has, so that a longer one is seen to be too long.
-const MOST_HELD: usize = 257;
+const MOST_HELD: usize = modbus::MOST_BYTES + 1;
 
 // The bytes of a line since its last frame.
 pub struct Collector {
     // The bytes, and whatever stood behind them.
-    pub bytes: [u8; 257],
+    pub bytes: [u8; MOST_HELD],
     // How many there are.
     pub length: usize,
     // Whether they are a frame; the next byte then begins another.
@@ -107,7 +107,7 @@ fn close(c: Collector) -> Collector
 
 // One byte behind the first `n`.
 fn add(c: Collector, n: usize, b: u8) -> Collector
-    requires { ⌜ n < 257 ⌝ }
+    requires { ⌜ n < mostHeld ⌝ }
     ensures { λ r. ⌜ r ≡ added c n b ⌝ }
 {
     let mut d = c;
@@ -130,7 +130,7 @@ fn still_held(c: Collector) -> usize
 // How many bytes of a collector are held: those of its frame, where one has ended.
 pub fn held_length(c: Collector) -> usize
     ensures is { λ r. ⌜ r ≡ heldLength c ⌝ }
-    ensures within { λ r. ⌜ r ≤ 257 ⌝ }
+    ensures within { λ r. ⌜ r ≤ mostHeld ⌝ }
 {
     if c.length <= MOST_HELD {
         return c.length;
@@ -143,7 +143,7 @@ pub fn fresh() -> Collector
     ensures { λ r. ⌜ r ≡ freshCollector ⌝ }
 {
     Collector {
-        bytes: [0; 257],
+        bytes: [0; MOST_HELD],
         length: 0,
         ended: false,
     }
@@ -151,7 +151,7 @@ pub fn fresh() -> Collector
 
 // Whether the bytes held end a frame, to be taken or passed over.
 fn judge(node: u8, c: Collector) -> Collector
-    requires { ⌜ (1 ≤ c .length) × (c .length ≤ 257) ⌝ }
+    requires { ⌜ (1 ≤ c .length) × (c .length ≤ mostHeld) ⌝ }
     ensures { λ r. ⌜ r ≡ judged node c ⌝ }
 {
     let bytes = c.bytes;

@@ -1,5 +1,4 @@
 -- `framing::held_length` meets its contract: its test is the definition's.
-use mathlib.Core.Path.{sym}
 use native.Mathlib.Omega.{arith}
 use borrow.Author.Tests.{le-leb, lt-leb}
 use Rattle.framing.specs.Collector.{heldLength}
