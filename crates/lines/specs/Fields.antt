@@ -23,6 +23,10 @@ driveFields t o =
     ++ (analogText (o .live .reading .drive) (o .live .reading .code) ++ (space ∷ []))
     ++ (number (o .note) ++ (newline ∷ []))
 
+-- a load's number and slot
+unfoldable pub refusalFields : ℕ → ℕ → List ℕ
+refusalFields n slot = number n ++ (space ∷ []) ++ (number slot ++ (newline ∷ []))
+
 -- the line is its parts
 pub line-parts : (count : ℕ) (e : Event) (t : List ℤ) (o : Outcome) →
     number count ++ (space ∷ []) ++ (kindLetter e ∷ space ∷ []) ++ valueFields (o .live) ++ driveFields t o ≡ eventLine count e (answerBy t o)

@@ -14,7 +14,7 @@ ghost use Rattle.text.specs.Put.{Put};
 ghost use Rattle.panel.specs.Step.{answerBy};
 ghost use Rattle.lines.specs.Lines.{kindLetter, levelDigit, outsText, analogText, counted, headerLine, eventLine, loadLine, endLine};
 ghost use Rattle.lines.specs.LineLaws.{longest};
-ghost use Rattle.lines.specs.Fields.{valueFields, driveFields};
+ghost use Rattle.lines.specs.Fields.{valueFields, driveFields, refusalFields};
 
 // The letter of an event's kind.
 fn kind_letter(e: Event) -> u8
@@ -136,14 +136,22 @@ pub fn event_line(
     put_drives(out, p3, t, o)
 }
 
+// Puts a load's number and slot, and ends the line.
+pub fn put_refusal(out: &mut [u8], at: usize, number: u32, slot: usize) -> usize
+    requires { ⌜ (at + 40 ≤ length (now out)) × (slot ≤ largest) ⌝ }
+    ensures { λ r. ⌜ Put (now (out .entry)) at (refusalFields number slot) r (now (out .exit)) ⌝ }
+{
+    let p1 = text::put_natural(out, at, number as u64, b' ');
+    text::put_natural(out, p1, slot as u64, b'\n')
+}
+
 // Puts the line of a refused table.
 pub fn load_line(out: &mut [u8], at: usize, refusal: u32, slot: usize) -> usize
     requires { ⌜ (at + longest ≤ length (now out)) × (slot ≤ largest) ⌝ }
     ensures { λ r. ⌜ Put (now (out .entry)) at (loadLine refusal slot) r (now (out .exit)) ⌝ }
 {
     let p1 = text::put_bytes(out, at, b"load ");
-    let p2 = text::put_natural(out, p1, refusal as u64, b' ');
-    text::put_natural(out, p2, slot as u64, b'\n')
+    put_refusal(out, p1, refusal, slot)
 }
 
 // Puts the last line.

@@ -1,19 +1,15 @@
 -- An input of fewer than 416 bytes has fewer than 104 table words, and is refused with 1.
-use mathlib.Core.Path.{_≡_, refl, sym, _∙_}
-use mathlib.Core.Bool.{Bool, true, false, cond}
+use mathlib.Core.Path.{_≡_, sym, _∙_}
 use mathlib.Core.List.{List, [], _∷_, map}
 use Prim.Native.Nat.{ℕ, _*_, _≤_, _<_}
 use native.Mathlib.Omega.{arith}
-use borrow.Author.Tests.{eqb-true, ltb-true}
-use lib.Dec.{eqb}
 use lib.IntN.{ℤ}
 use lib.ListN.{length, take, length-map}
 use lib.Seq.{take-all}
 use Rattle.integers.specs.TwosComplement.{signedOf}
 use Rattle.events.specs.Bytes.{wordsIn}
-use Rattle.parameters.specs.Load.{slotOut, conditions, condition, loadNumber, loadSlot}
-use Rattle.parameters.specs.LoadLaws.{load-length, number-only, answer-slot}
-use Rattle.parameters.specs.Rows.{lowestOut, defaultTable}
+use Rattle.parameters.specs.LoadLaws.{load-length}
+use Rattle.parameters.specs.Rows.{defaultTable}
 use Rattle.panel.specs.declared.Loaded.{Loaded}
 use Rattle.panel.specs.Load.{loadedOf}
 use Rattle.commands.specs.State.{freshOf}
@@ -43,16 +39,3 @@ short-input input h = not-104-words (map signedOf (wordsIn (take tableBytes inpu
   where
     few : length (wordsIn (take tableBytes input)) < 104
     few = rw (take-all tableBytes input (omega arith)) (omega (arith, words-length input))
-
--- the slot that a refused load names is one of the table's
-named-small : (t : List ℤ) → loadNumber t ≡ 2 → lowestOut t < 104
-unfolding condition conditions slotOut
-named-small t e = ltb-true (lowestOut t) 104 (number-only t 2 (omega arith) e .own)
-
-pub slot-small : (t : List ℤ) → loadedOf t .slot ≤ 104
-unfolding loadedOf loadSlot
-slot-small t = rw (answer-slot t) (by (eqb (loadNumber t) 2) refl)
-  where
-    by : (b : Bool) → eqb (loadNumber t) 2 ≡ b → cond b (lowestOut t) 0 ≤ 104
-    by true e = omega (arith, named-small t (eqb-true (loadNumber t) 2 e))
-    by false e = omega arith

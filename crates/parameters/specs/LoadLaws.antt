@@ -124,6 +124,19 @@ pub answer-table : (t : List ℤ) → loadNumber t ≡ 0 → loadOf t .table ≡
 unfolding loadOf
 answer-table t e = rw e
 
+-- the slot that a refused load names is one of the table's
+named-small : (t : List ℤ) → loadNumber t ≡ 2 → lowestOut t < 104
+unfolding condition conditions slotOut
+named-small t e = ltb-true (lowestOut t) 104 (number-only t 2 (omega arith) e .own)
+
+pub slot-small : (t : List ℤ) → loadOf t .slot ≤ 104
+unfolding loadSlot
+slot-small t = rw (answer-slot t) (by (eqb (loadNumber t) 2) refl)
+  where
+    by : (b : Bool) → eqb (loadNumber t) 2 ≡ b → cond b (lowestOut t) 0 ≤ 104
+    by true e = omega (arith, named-small t (eqb-true (loadNumber t) 2 e))
+    by false e = omega arith
+
 -- the defaults load
 pub defaults-load : loadNumber defaultTable ≡ 0
 unfolding loadNumber conditions conflicts firstOf some wordsMissing slotOut fieldWrong errorBitWrong spanEmpty notAbove pointsNotRising originMissing frozenByEdge freezeOnEdge differ differsFrom polaritiesDiffer outFrom inRange rowAt rowOf defaultTable defaultsFrom

@@ -85,15 +85,18 @@ request-fits node s due (Read register) = sent-fits due _ (omega arith)
 request-fits node s due (Write register z) =
     by-test (eqb (loadNumber (writtenTable s register z)) 0) _ _ (λ (x : Served). x .reply .length ≤ longestReply) (λ _. sent-fits due _ (omega arith)) (λ _. sent-fits due _ (omega arith))
 
+pub reply-fits : (node : ℕ) (s : State) (f : List ℕ) → servedOf node s f .reply .length ≤ longestReply
+unfolding servedOf
+reply-fits node s f = request-fits node s (askedOf node f .reply) (askedOf node f .request)
+
 pub promised : (node : ℕ) (s : State) (f : List ℕ) (x : Served) → Good s → x ≡ servedOf node s f →
     (x ≡ servedOf node s f) × (Good (x .state) × (x .reply .length ≤ longestReply))
-unfolding servedOf
 promised node s f x g is =
     (
       is,
       (
         subst (λ (y : Served). Good (y .state)) (sym is) (good-served node g f),
-        subst (λ (y : Served). y .reply .length ≤ longestReply) (sym is) (request-fits node s (askedOf node f .reply) (askedOf node f .request)),
+        subst (λ (y : Served). y .reply .length ≤ longestReply) (sym is) (reply-fits node s f),
       ),
     )
 

@@ -4,20 +4,15 @@ use mathlib.Core.Path.{_≡_, refl, sym, ap, _∙_}
 use mathlib.Core.Bool.{Bool, true, false, cond}
 use mathlib.Core.List.{List, [], _∷_, _++_}
 use Prim.Native.Nat.{ℕ}
-use native.Mathlib.Omega.{arith}
 use lib.IntN.{ℤ}
 use Rattle.commands.specs.declared.state.State.{State}
 use Rattle.commands.specs.State.{freshOf}
 use Rattle.events.specs.declared.Event.{Event}
-use Rattle.integers.specs.Choice.{by-test}
-use Rattle.panel.specs.declared.Loaded.{Loaded}
-use Rattle.panel.specs.Load.{loadedOf}
 use Rattle.panel.specs.Step.{answerOf, stepOf}
-use Rattle.parameters.specs.Load.{loadNumber, loadOf}
-use Rattle.parameters.specs.LoadLaws.{answer-number, answer-table}
+use Rattle.parameters.specs.Load.{loadNumber}
 use Rattle.registers.specs.Serve.{servedOf}
-use Rattle.registers.specs.ServeLaws.{Afresh, still, afresh}
-use Rattle.registers.specs.Start.{isNode, startedOf}
+use Rattle.registers.specs.ServeLaws.{still, afresh}
+use Rattle.registers.specs.StartLaws.{starts}
 use Rattle.runs.specs.Demand3Laws.{demand3}
 use Rattle.runs.specs.Run.{runOf, lastAnswer}
 use Rattle.runs.specs.RunLaws.{last-state}
@@ -61,21 +56,6 @@ unfolding sessionOf runIn
 follows-all node s r h [] = h
 follows-all node s r h (x ∷ xs) = follows-all node (entered node s x) (continued node s r x) (follows node s r h x) xs
 
--- what starts: the table loads, and the panel is its fresh state
-start-loads : (node : ℕ) (t : List ℤ) → startedOf node t .number ≡ 0 → loadNumber t ≡ 0
-unfolding startedOf loadedOf
-start-loads node t =
-    by-test (isNode node) (loadedOf t) _ (λ (l : Loaded). l .number ≡ 0 → loadNumber t ≡ 0)
-    (λ _ e. sym (answer-number t) ∙ e)
-    (λ _ e. absurd (omega arith))
-
-start-fresh : (node : ℕ) (t : List ℤ) → startedOf node t .number ≡ 0 → startedOf node t .state ≡ freshOf t
-unfolding startedOf loadedOf
-start-fresh node t =
-    by-test (isNode node) (loadedOf t) _ (λ (l : Loaded). l .number ≡ 0 → l .state ≡ freshOf t)
-    (λ _ e. ap freshOf (answer-table t (sym (answer-number t) ∙ e)))
-    (λ _ e. absurd (omega arith))
-
 -- every session
 session-demand : (node : ℕ) (t : List ℤ) → loadNumber t ≡ 0 → (xs : List Entry) → SessionDemand node t xs
 unfolding runOf
@@ -89,4 +69,4 @@ session-demand node t e xs =
     }
 
 pub demanded : Demanded
-demanded node t e = record { fresh = start-fresh node t e; sessions = session-demand node t (start-loads node t e) }
+demanded node t e = let s = starts node t e in record { fresh = s .fresh; sessions = session-demand node t (s .loads) }

@@ -3,9 +3,10 @@ use mathlib.Core.Path.{sym, _∙_}
 use native.Mathlib.Omega.{arith}
 use borrow.Author.Tests.{eq-eqb, ne-eqb}
 use Rattle.lines.specs.LineLaws.{longest, header-line-at-most, load-line-at-most}
+use Rattle.panel.specs.Load.{loadedOf}
+use Rattle.parameters.specs.LoadLaws.{slot-small}
 use Rattle.text.specs.PutLaws.{put-within}
 use Rattle.logrun.specs.Input.{tableOf}
-use Rattle.logrun.specs.InputLaws.{slot-small}
 use Rattle.logrun.specs.Output.{openingText}
 use borrow.Author.Needs.{needs}
 use Rattle.logrun.proofs.open.Statement.{statement}
@@ -33,6 +34,7 @@ returns c =
     (begun .0 ∙ rw l, (sym e, (rw e put, (begun .1, put-within put longest header-line-at-most (omega arith)))))
 
 load-line-requires : tie.Need-load-line-requires
+unfolding loadedOf
 load-line-requires c κs =
     let load = c .before .before .before .before .before in
     (omega arith, rw (load .load .ensures .0) (omega (arith, slot-small (tableOf (load .before .before .before .args .bytes .now)))))
