@@ -3,7 +3,7 @@ use mathlib.Core.Path.{_≡_, sym}
 use native.Mathlib.Omega.{arith}
 use lib.ListN.{length}
 use lib.Seq.{length-take-le}
-use Rattle.script.specs.Collector.{askedOf}
+use Rattle.script.specs.Collector.{most, askedOf}
 use borrow.Author.Needs.{needs}
 use Rattle.script.proofs.collector.asked.Statement.{statement}
 use Rattle.script.proofs.collector.asked.Tie as tie
@@ -13,7 +13,7 @@ held-requires c κs = search needs
 
 array-share-prefix-bytes : tie.Need-array-share-prefix-bytes
 array-share-prefix-bytes c =
-    let n : length (c .before .before .args .c .bytes) ≡ 1026 = search needs in
+    let n : length (c .before .before .args .c .bytes) ≡ most = search needs in
     omega (arith, c .held .ensures .1)
 
 slice-aggregate-read : tie.Need-slice-aggregate-read
