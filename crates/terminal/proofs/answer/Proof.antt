@@ -1,0 +1,52 @@
+-- `terminal::answer` meets its contract: the line is the bytes held, and what is written stands at the start of the buffer.
+use mathlib.Core.Path.{_≡_, sym}
+use native.Mathlib.Omega.{arith}
+use lib.ListN.{length}
+use lib.Seq.{length-take-le}
+use borrow.Author.Needs.{needs}
+use Rattle.script.specs.Collector.{most}
+use Rattle.terminal.proofs.answer.Statement.{statement}
+use Rattle.terminal.proofs.answer.Tie as tie
+
+held-requires : tie.Need-held-requires
+held-requires c κs = search needs
+
+array-share-prefix-bytes : tie.Need-array-share-prefix-bytes
+array-share-prefix-bytes c =
+    let n : length (c .before .before .args .l .bytes) ≡ most = search needs in
+    omega (arith, c .held .ensures .1)
+
+slice-aggregate-line : tie.Need-slice-aggregate-line
+slice-aggregate-line c = sym (length-take-le _ _ (array-share-prefix-bytes (c .before)))
+
+slice-aggregate-line-2 : tie.Need-slice-aggregate-line-2
+slice-aggregate-line-2 c = search needs
+
+line-requires : tie.Need-line-requires
+line-requires c κs = search needs
+
+array-share-prefix-out : tie.Need-array-share-prefix-out
+array-share-prefix-out c = search needs
+
+slice-aggregate-write-all : tie.Need-slice-aggregate-write-all
+slice-aggregate-write-all c = sym (length-take-le _ _ (array-share-prefix-out (c .before)))
+
+write-all-requires : tie.Need-write-all-requires
+write-all-requires c κs = search needs
+
+returns : tie.Need-returns
+returns c = search needs
+
+pub answer-spec : {M : Type 1} → statement M
+answer-spec =
+    tie.close
+    (tie.spec
+    held-requires
+    array-share-prefix-bytes
+    slice-aggregate-line
+    slice-aggregate-line-2
+    line-requires
+    array-share-prefix-out
+    slice-aggregate-write-all
+    write-all-requires
+    returns)

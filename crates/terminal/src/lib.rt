@@ -1,0 +1,121 @@
+// A dialog over standard input and output: lines are read as they come, and each is answered before the next input is waited for.
+// Uses `dialog` for all that is said, `script` for the lines of the input, and `io` and `libc` to read and write.
+use dialog::Console;
+use libc::STDIN_FILENO;
+use libc::STDOUT_FILENO;
+use script::collector;
+use script::collector::Collector;
+ghost use mathlib.Core.Path.{_≡_};
+ghost use Prim.Native.Nat.{_≤_};
+ghost use lib.ListN.{length};
+ghost use Rattle.dialog.specs.Dialog.{Ready};
+
+// The dialog, and the line that has not ended yet.
+struct Talk {
+    console: Console,
+    collector: Collector,
+}
+
+// What a piece of the input leaves.
+struct Turn {
+    talk: Talk,
+    // Whether the input goes on.
+    more: bool,
+}
+
+// A line that has ended: it is answered.
+fn answer(c: Console, l: Collector) -> Console
+    requires { ⌜ Ready c ⌝ }
+    ensures { λ r. ⌜ Ready r ⌝ }
+{
+    let bytes = l.bytes;
+    let n = collector::held(l);
+    let mut out = [0u8; 128];
+    let s = dialog::line(c, &bytes[..n], &mut out);
+    let end = s.end;
+    io::write_all(STDOUT_FILENO, &out[..end]);
+    s.console
+}
+
+// One byte of the input.
+fn take(t: Talk, b: u8) -> Talk
+    requires { ⌜ Ready (t .console) ⌝ }
+    ensures { λ r. ⌜ Ready (r .console) ⌝ }
+{
+    let before = t.collector;
+    let l = collector::push(before, b);
+    let c = t.console;
+    if l.ended {
+        return Talk {
+            console: answer(c, l),
+            collector: l,
+        };
+    }
+    Talk {
+        console: c,
+        collector: l,
+    }
+}
+
+// The bytes of a piece of the input.
+fn take_all(t: Talk, bytes: &[u8]) -> Talk
+    requires { ⌜ Ready (t .console) ⌝ }
+    ensures { λ r. ⌜ Ready (r .console) ⌝ }
+{
+    let mut u = t;
+    let mut i: usize = 0;
+    while i < bytes.len() {
+        u = take(u, bytes[i]);
+        i += 1;
+    }
+    u
+}
+
+// The end of the input: a last line without a newline counts too.
+fn finish(t: Talk)
+    requires { ⌜ Ready (t .console) ⌝ }
+{
+    let l = t.collector;
+    if collector::pending(l) {
+        let c = t.console;
+        answer(c, l);
+    }
+}
+
+// Reads what is there and answers the lines that end in it.
+fn take_turn(t: Talk) -> Turn
+    requires { ⌜ Ready (t .console) ⌝ }
+    ensures { λ r. ⌜ Ready (r .talk .console) ⌝ }
+{
+    let mut buffer = [0u8; 4096];
+    let got = libc::read(STDIN_FILENO, &mut buffer);
+    if got <= 0 {
+        return Turn {
+            talk: t,
+            more: false,
+        };
+    }
+    let n = io::count(got, &buffer);
+    Turn {
+        talk: take_all(t, &buffer[..n]),
+        more: true,
+    }
+}
+
+// Runs a dialog to the end of the input. The turns are counted down from a number that no input uses up.
+pub fn run() {
+    let mut t = Talk {
+        console: dialog::fresh(),
+        collector: collector::fresh(),
+    };
+    let mut turns = u64::MAX;
+    while turns > 0 {
+        let u = take_turn(t);
+        t = u.talk;
+        if !u.more {
+            finish(t);
+            return;
+        }
+        turns -= 1;
+    }
+}
