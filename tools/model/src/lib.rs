@@ -4,6 +4,7 @@
 pub mod analog;
 pub mod answers;
 pub mod bench;
+pub mod console;
 pub mod coverage;
 pub mod differ;
 pub mod fast;
@@ -11,6 +12,7 @@ pub mod fraction;
 pub mod generate;
 pub mod log;
 pub mod measure;
+pub mod modbus;
 pub mod panel;
 pub mod panelrun;
 pub mod print;

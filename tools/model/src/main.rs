@@ -6,11 +6,12 @@ use std::path::Path;
 use std::process::ExitCode;
 
 use model::record::{self, Recording};
-use model::{answers, bench, differ, generate, panelrun, print};
+use model::{answers, bench, console, differ, generate, panelrun, print};
 
 const USAGE: &str = "usage:
   model run < input > output
   model print < input > output
+  model console < text > text
   model generate SEED CASE > input
   model differ PANELRUN_PATH SEED COUNT
   model record KIND SEED COUNT DIR   (runs or answers)
@@ -36,6 +37,7 @@ fn command(words: &[&str]) -> io::Result<bool> {
     match words {
         ["run"] => run(),
         ["print"] => print::print(io::stdin().lock(), io::stdout().lock()).map(|()| true),
+        ["console"] => console::serve(io::stdin().lock(), io::stdout().lock()).map(|()| true),
         ["generate", seed, case] => generate_case(number(seed)?, number(case)?),
         ["differ", program, seed, count] => compare(program, number(seed)?, number(count)?),
         ["record", kind, seed, count, folder] => {

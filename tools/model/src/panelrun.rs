@@ -48,7 +48,7 @@ pub fn run_with(input: &[u8], mut see: impl FnMut(Step)) -> (String, End) {
     for (i, &event) in log.events.iter().enumerate() {
         let (after, answer) = panel::step(&table, &state, event);
         see(Step { table: &table, before: &state, event, after: &after, answer: &answer });
-        print_line(&mut text, i + 1, event, &answer);
+        text.push_str(&line(i as u64 + 1, event, &answer));
         state = after;
     }
     writeln!(text, "end {}", log.end).unwrap();
@@ -71,7 +71,8 @@ pub fn input_of(table: &[i32], log: &[u32]) -> Vec<u8> {
     table.chain(log.iter().copied()).flat_map(u32::to_le_bytes).collect()
 }
 
-fn print_line(text: &mut String, number: usize, event: Event, answer: &Answer) {
+/// The line of an event, with its newline.
+pub fn line(number: u64, event: Event, answer: &Answer) -> String {
     let kind = match event {
         Event::Telegram(_) => 'T',
         Event::Levels(_) => 'I',
@@ -79,10 +80,6 @@ fn print_line(text: &mut String, number: usize, event: Event, answer: &Answer) {
     };
     let outs: String = answer.outputs.iter().map(|&high| if high { '1' } else { '0' }).collect();
     let analog = answer.code.map_or("off".to_string(), |code| code.to_string());
-    writeln!(
-        text,
-        "{number} {kind} {} {} {} {outs} {analog} {}",
-        answer.result, answer.shown, answer.error, answer.note
-    )
-    .unwrap();
+    let Answer { result, shown, error, note, .. } = answer;
+    format!("{number} {kind} {result} {shown} {error} {outs} {analog} {note}\n")
 }

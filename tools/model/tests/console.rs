@@ -1,0 +1,185 @@
+//! console's lines, by request K2: words, numbers, messages and what a start and a write leave.
+
+use model::console::{self, Wrong};
+
+/// The text of some lines.
+fn run(text: &str) -> String {
+    console::run(text.as_bytes())
+}
+
+fn message(kind: usize) -> String {
+    format!("? {}\n", Wrong::ALL[kind - 1].words())
+}
+
+/// What one line says once a panel runs.
+fn said(line: &[u8]) -> String {
+    let text = console::run(&[b"start\n", line, b"\n"].concat());
+    text.strip_prefix("start 0 0\n").unwrap().into()
+}
+
+fn assert_kind(kind: usize, lines: &[&str]) {
+    for line in lines {
+        assert_eq!(said(line.as_bytes()), message(kind), "{line}");
+    }
+}
+
+#[test]
+fn worked_example_without_its_header() {
+    let text = "slot 2 1\nslot 49 1\nstart\nt 3E7\nt 3e8\ni 1\nt 000003E6\nc 65535\n";
+    let expected = "\
+start 0 0
+1 T 999 999 0 0000 3273 0
+2 T 1000 1000 0 1000 3277 0
+3 I 0 0 0 0000 0 0
+4 T -2 -2 0 0000 -7 0
+5 C -2 -2 0 0000 -7 0
+";
+    assert_eq!(run(text), expected);
+}
+
+#[test]
+fn lines_that_are_none() {
+    assert_kind(2, &["x", "Start", "nodes 1", " #", "\t", "t\t5", "start\r\r", "frame 01", "ü"]);
+    assert_kind(3, &["node", "node 65536", "node -1", "node 01", "node +1", "node 1 2", "node x"]);
+    assert_kind(3, &["node 1000000000000000000", "node 99999999999999999999", "node -0"]);
+    assert_kind(4, &["slot", "slot 1", "slot 104 0", "slot -1 0", "slot 1 2 3", "slot 00 1"]);
+    assert_kind(4, &["slot 5 2147483648", "slot 5 -2147483649", "slot 5 -0", "slot 5 1.0"]);
+    assert_kind(5, &["start 1", "start start"]);
+    assert_kind(6, &["t", "t 123456789", "t 0x1", "t g", "t 1 2", "t -1", "t +1"]);
+    assert_kind(7, &["i", "i 256", "i -1", "i 07", "i 1 1", "i A"]);
+    assert_kind(8, &["c", "c 65536", "c -1", "c 0 0", "c 1e3"]);
+    assert_kind(9, &["f 1", "f 123", "f 0103", "f 01 g3", "f 01 +3", "f 01,03"]);
+}
+
+#[test]
+fn lines_that_say_nothing() {
+    for line in
+        ["", "    ", "\r", "  \r", "#", "#\t", "# start 1", "node 0", "slot 103 -2147483648"]
+    {
+        assert_eq!(said(line.as_bytes()), "", "{line}");
+    }
+}
+
+#[test]
+fn spaces_and_carriage_returns() {
+    let text = "  slot  2   1 \r\n\r\nstart \r\n t 5\r\nf\r\nt 7\r";
+    let expected = "start 0 0\n1 T 5 5 0 0000 16 0\nframe 20 -\n2 T 7 7 0 0000 23 0\n";
+    assert_eq!(run(text), expected);
+}
+
+#[test]
+fn a_line_has_at_most_1024_bytes() {
+    let padded =
+        |start: &str, length: usize| format!("{start}{}", " ".repeat(length - start.len()));
+    let answer = "1 T 2 2 0 0000 7 0\n";
+    assert_eq!(said(padded("t 3", 1_024).as_bytes()), answer);
+    assert_eq!(said(format!("{}\r", padded("t 3", 1_024)).as_bytes()), answer);
+    assert_eq!(said(padded("t 3", 1_025).as_bytes()), message(1));
+    assert_eq!(said(format!("{}\r\r", padded("t 3", 1_023)).as_bytes()), message(6));
+    assert_eq!(said(format!("{}\r\r", padded("t 3", 1_024)).as_bytes()), message(1));
+    assert_eq!(said(padded("#", 1_024).as_bytes()), "");
+    assert_eq!(said(padded("#", 1_025).as_bytes()), message(1));
+    assert_eq!(said(padded("", 1_024).as_bytes()), "");
+    assert_eq!(said(padded("", 1_025).as_bytes()), message(1));
+    assert_eq!(said(&[b'x'; 9_000]), message(1));
+}
+
+#[test]
+fn a_frame_has_at_most_300_bytes() {
+    let frame = |count: usize| format!("f{}", " 00".repeat(count));
+    assert_eq!(said(frame(300).as_bytes()), "frame 20 -\n");
+    assert_eq!(said(frame(301).as_bytes()), message(9));
+}
+
+#[test]
+fn before_the_first_start() {
+    let text = "t 5\ni 8\nc 1\nf\nt x\nf 1\n#\n";
+    let none = message(10);
+    assert_eq!(run(text), format!("{none}{none}{none}{none}{}{}", message(6), message(9)));
+    // A refused start starts nothing.
+    assert_eq!(run("node 0\nstart\nt 5\n"), format!("start 33 0\n{none}"));
+}
+
+#[test]
+fn refused_start_leaves_the_panel_as_it_is() {
+    let text = "\
+slot 2 1
+node 7
+start
+t 5
+node 248
+slot 17 2147483647
+start
+node 8
+start
+t 6
+f 07 03 00 22 00 02 64 67
+slot 17 4
+start
+t 6
+f 07 03 00 22 00 02 64 67
+f 08 03 00 22 00 02 64 98
+start
+t 6
+";
+    let expected = "\
+start 0 0
+1 T 5 5 0 0000 16 0
+start 33 0
+start 2 17
+2 T 6 6 0 0000 20 0
+frame 0 07 03 04 03 E8 00 00 1C 43
+start 0 0
+1 T 6 6 0 1000 20 0
+frame 0 -
+frame 0 08 03 04 00 04 00 00 22 F2
+start 0 0
+1 T 6 6 0 1000 20 0
+";
+    assert_eq!(run(text), expected);
+}
+
+#[test]
+fn events_are_counted_from_1_after_a_write() {
+    // A write of slot 12, a broadcast of it, and one that is refused.
+    let text = "\
+slot 2 1
+start
+t 5
+f 01 10 00 18 00 02 04 00 01 00 00 A2 C5
+t 5
+t 5
+f 00 10 00 18 00 02 04 00 02 00 00 56 39
+i 8
+f 01 10 00 00 00 02 04 00 00 00 00 F3 AF
+t 5
+";
+    let expected = "\
+start 0 0
+1 T 5 5 0 0000 16 0
+frame 0 01 10 00 18 00 02 C1 CF
+1 T 6 6 0 0000 20 0
+2 T 6 6 0 0000 20 0
+frame 0 -
+1 I 0 0 0 0000 off 10
+frame 0 01 90 03 0C 01
+2 T 7 7 0 0000 23 0
+";
+    assert_eq!(run(text), expected);
+}
+
+#[test]
+fn last_line_with_and_without_its_newline() {
+    assert_eq!(run("start"), "start 0 0\n");
+    assert_eq!(run("start\r"), "start 0 0\n");
+    assert_eq!(run("start\n\n"), "start 0 0\n");
+    assert_eq!(run(""), "");
+}
+
+#[test]
+fn served_as_run() {
+    let text = b"slot 2 1\nstart\nt 5\nt\nf 01\nt 6".as_slice();
+    let mut output = Vec::new();
+    console::serve(text, &mut output).unwrap();
+    assert_eq!(output, console::run(text).into_bytes());
+}
