@@ -2,6 +2,7 @@
 
 use std::fmt;
 
+use crate::differ::Counts;
 use crate::panel::{self, Event};
 use crate::panelrun::{self, End, Step};
 use crate::table::{Action, Format, Table};
@@ -142,13 +143,6 @@ impl Coverage {
         self.shared += u64::from(shares_output(table));
     }
 
-    /// Adds the counts of other runs.
-    pub fn add(&mut self, other: &Coverage) {
-        for (mine, theirs) in self.counters().into_iter().zip(other.clone().counters()) {
-            *mine.1 += *theirs.1;
-        }
-    }
-
     /// Every count with its name.
     fn counters(&mut self) -> Vec<(String, &mut u64)> {
         let mut list: Vec<(String, &mut u64)> = vec![
@@ -185,6 +179,14 @@ impl Coverage {
             ("lines with a shared output".into(), &mut self.shared),
         ]);
         list
+    }
+}
+
+impl Counts for Coverage {
+    fn add(&mut self, other: &Coverage) {
+        for (mine, theirs) in self.counters().into_iter().zip(other.clone().counters()) {
+            *mine.1 += *theirs.1;
+        }
     }
 }
 

@@ -1,4 +1,4 @@
-//! Runs another panelrun on random cases and holds its output against the model's.
+//! Runs another panelrun or console on random cases and holds its output against the model's.
 
 use std::fs;
 use std::io::{self, ErrorKind, Write};
@@ -8,10 +8,25 @@ use std::sync::Mutex;
 use std::thread;
 
 use crate::coverage::{self, Coverage};
-use crate::generate;
+use crate::generate::{self, sessions};
+use crate::tally::{self, Tally};
 
 /// Processes at a time.
 const WORKERS: usize = 2;
+
+/// What cases meet, counted.
+pub trait Counts: Default + Send {
+    /// Adds the counts of other cases.
+    fn add(&mut self, other: &Self);
+}
+
+/// An input, what the model prints for it, and what it meets.
+pub struct Case<C> {
+    pub purpose: String,
+    pub input: Vec<u8>,
+    pub expected: String,
+    pub met: C,
+}
 
 /// A case on which the two disagree.
 pub struct Difference {
@@ -25,25 +40,44 @@ pub struct Difference {
 }
 
 /// What the workers share.
-struct Shared<'a> {
+struct Shared<'a, C> {
     program: &'a str,
-    seed: u64,
+    make: &'a (dyn Fn(u64) -> Case<C> + Sync),
     count: u64,
     next: AtomicU64,
     stop: AtomicBool,
-    seen: Mutex<Coverage>,
+    seen: Mutex<C>,
     found: Mutex<Option<Difference>>,
 }
 
+/// An input of panelrun from a seed.
+pub fn panelrun_case(seed: u64, index: u64) -> Case<Coverage> {
+    let case = generate::case(seed, index);
+    let (expected, met) = coverage::observe(&case.input);
+    Case { purpose: case.theme.purpose(), input: case.input, expected, met }
+}
+
+/// A text of console from a seed.
+pub fn console_case(seed: u64, index: u64) -> Case<Tally> {
+    let (input, sessions) = sessions::text(seed, index);
+    let (expected, mut met) = tally::observe(&input);
+    (0..sessions).for_each(|_| met.count("sessions"));
+    Case { purpose: format!("sessions: {sessions}"), input, expected, met }
+}
+
 /// Compares `count` cases; the first difference ends the comparison.
-pub fn differ(program: &str, seed: u64, count: u64) -> io::Result<(Coverage, Option<Difference>)> {
+pub fn differ<C: Counts>(
+    program: &str,
+    count: u64,
+    make: impl Fn(u64) -> Case<C> + Sync,
+) -> io::Result<(C, Option<Difference>)> {
     let shared = Shared {
         program,
-        seed,
+        make: &make,
         count,
         next: AtomicU64::new(0),
         stop: AtomicBool::new(false),
-        seen: Mutex::new(Coverage::default()),
+        seen: Mutex::new(C::default()),
         found: Mutex::new(None),
     };
     thread::scope(|scope| {
@@ -53,17 +87,18 @@ pub fn differ(program: &str, seed: u64, count: u64) -> io::Result<(Coverage, Opt
     Ok((shared.seen.into_inner().unwrap(), shared.found.into_inner().unwrap()))
 }
 
-fn work(shared: &Shared) -> io::Result<()> {
-    let mut seen = Coverage::default();
+fn work<C: Counts>(shared: &Shared<C>) -> io::Result<()> {
+    let mut seen = C::default();
     while !shared.stop.load(Ordering::Relaxed) {
-        let case = shared.next.fetch_add(1, Ordering::Relaxed);
-        if case >= shared.count {
+        let index = shared.next.fetch_add(1, Ordering::Relaxed);
+        if index >= shared.count {
             break;
         }
-        let (met, difference) = compare(shared.program, shared.seed, case).inspect_err(|_| {
+        let case = (shared.make)(index);
+        seen.add(&case.met);
+        let difference = compare(shared.program, index, case).inspect_err(|_| {
             shared.stop.store(true, Ordering::Relaxed);
         })?;
-        seen.add(&met);
         if difference.is_some() {
             shared.stop.store(true, Ordering::Relaxed);
             *shared.found.lock().unwrap() = difference;
@@ -73,24 +108,21 @@ fn work(shared: &Shared) -> io::Result<()> {
     Ok(())
 }
 
-/// Runs one case through the program and the model.
-fn compare(program: &str, seed: u64, index: u64) -> io::Result<(Coverage, Option<Difference>)> {
-    let case = generate::case(seed, index);
-    let (expected, met) = coverage::observe(&case.input);
+/// Runs one case through the program.
+fn compare<C>(program: &str, index: u64, case: Case<C>) -> io::Result<Option<Difference>> {
     let output = run(program, &case.input)?;
     let trouble = trouble(&output);
-    if output.stdout == expected.as_bytes() && trouble.is_empty() {
-        return Ok((met, None));
+    if output.stdout == case.expected.as_bytes() && trouble.is_empty() {
+        return Ok(None);
     }
-    let difference = Difference {
+    Ok(Some(Difference {
         case: index,
-        purpose: case.theme.purpose(),
+        purpose: case.purpose,
         input: case.input,
-        expected: expected.into_bytes(),
+        expected: case.expected.into_bytes(),
         actual: output.stdout,
         trouble,
-    };
-    Ok((met, Some(difference)))
+    }))
 }
 
 /// Feeds an input to a program; one that stops reading early is no error.
@@ -117,17 +149,17 @@ fn trouble(output: &Output) -> String {
 }
 
 /// Writes input and outputs of a difference beside each other and prints where they part.
-pub fn report(difference: &Difference) -> io::Result<()> {
+pub fn report(difference: &Difference, program: &str) -> io::Result<()> {
     fs::write("difference.input", &difference.input)?;
     fs::write("difference.expected", &difference.expected)?;
     fs::write("difference.actual", &difference.actual)?;
     println!("case {} ({}) differs", difference.case, difference.purpose);
     let (line, expected, actual) = first_parting(&difference.expected, &difference.actual);
     println!("line {line}");
-    println!("model:    {expected}");
-    println!("panelrun: {actual}");
+    println!("{:9} {expected}", "model:");
+    println!("{:9} {actual}", format!("{program}:"));
     if !difference.trouble.is_empty() {
-        println!("trouble:  {}", difference.trouble.trim_end());
+        println!("{:9} {}", "trouble:", difference.trouble.trim_end());
     }
     println!("files: difference.input, difference.expected, difference.actual");
     Ok(())

@@ -19,4 +19,5 @@ pub mod print;
 pub mod record;
 pub mod rng;
 pub mod table;
+pub mod tally;
 pub mod telegram;

@@ -14,6 +14,7 @@ const USAGE: &str = "usage:
   model console < text > text
   model generate SEED CASE > input
   model differ PANELRUN_PATH SEED COUNT
+  model differ-console CONSOLE_PATH SEED COUNT
   model record KIND SEED COUNT DIR   (runs or answers)
   model check KIND SEED COUNT DIR
   model step ROUNDS < input        (a sum over all answers)
@@ -40,6 +41,9 @@ fn command(words: &[&str]) -> io::Result<bool> {
         ["console"] => console::serve(io::stdin().lock(), io::stdout().lock()).map(|()| true),
         ["generate", seed, case] => generate_case(number(seed)?, number(case)?),
         ["differ", program, seed, count] => compare(program, number(seed)?, number(count)?),
+        ["differ-console", program, seed, count] => {
+            compare_console(program, number(seed)?, number(count)?)
+        }
         ["record", kind, seed, count, folder] => {
             write_record(&recording(kind, number(seed)?, number(count)?)?, folder)
         }
@@ -81,12 +85,25 @@ fn generate_case(seed: u64, case: u64) -> io::Result<bool> {
 }
 
 fn compare(program: &str, seed: u64, count: u64) -> io::Result<bool> {
-    let (seen, difference) = differ::differ(program, seed, count)?;
+    let make = |index| differ::panelrun_case(seed, index);
+    let (seen, difference) = differ::differ(program, count, make)?;
     if let Some(difference) = difference {
-        differ::report(&difference)?;
+        differ::report(&difference, "panelrun")?;
         return Ok(false);
     }
     println!("{} cases and {} lines compared, no difference", seen.runs, seen.lines);
+    print!("{seen}");
+    Ok(true)
+}
+
+fn compare_console(program: &str, seed: u64, count: u64) -> io::Result<bool> {
+    let make = |index| differ::console_case(seed, index);
+    let (seen, difference) = differ::differ(program, count, make)?;
+    if let Some(difference) = difference {
+        differ::report(&difference, "console")?;
+        return Ok(false);
+    }
+    println!("{count} runs with {} sessions compared, no difference", seen.of("sessions"));
     print!("{seen}");
     Ok(true)
 }

@@ -3,6 +3,7 @@
 use super::tables::Draft;
 use super::theme::Wish;
 use crate::log;
+use crate::measure;
 use crate::panel::{self, Event, State};
 use crate::rng::Rng;
 use crate::table::{self, Format, Table, Z};
@@ -11,14 +12,29 @@ use crate::telegram;
 /// The words of a log; a table that does not load is taken as the defaults.
 pub fn words(rng: &mut Rng, wish: &Wish, draft: &Draft, events: usize) -> Vec<u32> {
     let table = table::load(&draft.words).unwrap_or_else(|_| Table::from_words(&table::defaults()));
-    let mut walk = Walk::new(rng, wish, &table, &draft.anchors);
     let mut words = Vec::new();
-    for _ in 0..events {
-        let event = walk.event();
-        walk.state = panel::step(&table, &walk.state, event).0;
+    for event in self::events(rng, wish, &table, panel::fresh(&table), &draft.anchors, events) {
         log::write(&mut words, event);
     }
     words
+}
+
+/// Events of a table from a state on.
+pub fn events(
+    rng: &mut Rng,
+    wish: &Wish,
+    table: &Table,
+    state: State,
+    anchors: &[i64],
+    count: usize,
+) -> Vec<Event> {
+    let mut walk = Walk::new(rng, wish, table, state, anchors);
+    let mut next = |_| {
+        let event = walk.event();
+        walk.state = panel::step(table, &walk.state, event).0;
+        event
+    };
+    (0..count).map(&mut next).collect()
 }
 
 /// A random walk of events.
@@ -39,7 +55,13 @@ struct Walk<'a> {
 }
 
 impl<'a> Walk<'a> {
-    fn new(rng: &'a mut Rng, wish: &Wish, table: &'a Table, anchors: &'a [i64]) -> Walk<'a> {
+    fn new(
+        rng: &'a mut Rng,
+        wish: &Wish,
+        table: &'a Table,
+        state: State,
+        anchors: &'a [i64],
+    ) -> Walk<'a> {
         let faulty = if wish.error_bit { 20 } else { rng.pick(&[0, 4, 10]) };
         let refused = if wish.refused_telegrams { 15 } else { rng.pick(&[0, 0, 4]) };
         let kinds = rng.pick(&[[60, 25, 15], [80, 15, 5], [40, 50, 10], [45, 20, 35]]);
@@ -47,8 +69,8 @@ impl<'a> Walk<'a> {
             rng,
             table,
             anchors,
-            state: panel::fresh(table),
-            place: 0,
+            state,
+            place: reached(table, &state),
             stride: (table.divider / table.factor).max(1),
             faulty,
             refused,
@@ -142,6 +164,12 @@ impl<'a> Walk<'a> {
         };
         ms.clamp(0, 65_535) as u16
     }
+}
+
+/// p after direction of the last telegram, 0 before the first.
+fn reached(table: &Table, state: &State) -> i64 {
+    let reading = state.telegram.and_then(|word| telegram::read(table, word));
+    reading.map_or(0, |reading| measure::directed(table, reading.position))
 }
 
 fn bits(count: u32) -> u32 {

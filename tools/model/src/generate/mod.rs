@@ -1,8 +1,11 @@
-//! Random inputs of panelrun from a seed.
+//! Random inputs of panelrun and texts of console from a seed.
 
 pub mod faults;
+pub mod frames;
+pub mod lines;
 pub mod logs;
 pub mod moment;
+pub mod sessions;
 pub mod tables;
 pub mod theme;
 

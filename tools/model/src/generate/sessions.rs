@@ -1,0 +1,258 @@
+//! Random texts of console: tables, starts, events, frames and lines that are none.
+
+use super::tables::{self, Draft};
+use super::theme::{self, Theme, Wish};
+use super::{faults, frames, lines, logs};
+use crate::console::Console;
+use crate::modbus::Place;
+use crate::rng::Rng;
+use crate::table::{self, slot, SLOTS};
+
+/// How long the sessions of a text are.
+#[derive(Clone, Copy, Debug, PartialEq, Eq)]
+pub enum Size {
+    /// Whole random tables.
+    Long,
+    /// Few slots, few lines.
+    Short,
+}
+
+/// A text under way, and the console that it leaves.
+pub struct Writer<'a> {
+    rng: &'a mut Rng,
+    size: Size,
+    pub text: Vec<u8>,
+    pub console: Console,
+}
+
+/// The text of one run of console, with the number of its sessions.
+pub fn text(seed: u64, index: u64) -> (Vec<u8>, u64) {
+    let mut rng = Rng::for_case(seed, index);
+    let sessions = [1, 2, 3, 6][rng.weighted(&[60, 25, 10, 5])];
+    let mut writer = Writer::new(&mut rng, Size::Long, Console::default());
+    if writer.rng.chance(20) {
+        writer.before_a_start();
+    }
+    for _ in 0..sessions {
+        writer.session();
+    }
+    writer.end();
+    (writer.text, sessions)
+}
+
+impl<'a> Writer<'a> {
+    pub fn new(rng: &'a mut Rng, size: Size, console: Console) -> Writer<'a> {
+        Writer { rng, size, text: Vec::new(), console }
+    }
+
+    /// One session: a table, its start, and what follows up to the next.
+    pub fn session(&mut self) {
+        let theme = theme::draw(self.rng);
+        let wish = theme.wish();
+        let draft = match self.size {
+            Size::Long if self.rng.chance(60) => tables::draft(self.rng, &wish),
+            _ => small(self.rng),
+        };
+        self.refused_starts(&draft, theme);
+        self.set_node();
+        self.set_table(&draft.words);
+        self.put("start");
+        if self.console.panel.is_none() {
+            return;
+        }
+        let most = if self.size == Size::Long { 12 } else { 4 };
+        for _ in 0..self.rng.between(1, most) {
+            self.events(&wish, &draft.anchors);
+            self.frames();
+            if self.rng.chance(25) {
+                self.odd();
+            }
+            if self.rng.chance(4) {
+                self.put("start");
+            }
+        }
+    }
+
+    /// Events and frames before the first start.
+    pub fn before_a_start(&mut self) {
+        for _ in 0..self.rng.between(1, 5) {
+            match self.rng.below(6) {
+                0 => self.put("t 5"),
+                1 => self.put("i 8"),
+                2 => self.put("c 100"),
+                3 => self.put("f 01 03 00 00 00 02 C4 0B"),
+                4 => self.put("f"),
+                _ => self.odd(),
+            }
+        }
+    }
+
+    /// Now and then the last line goes without its newline, or with a carriage return in its place.
+    pub fn end(&mut self) {
+        if self.rng.chance(15) {
+            self.text.pop();
+            if self.rng.chance(30) {
+                self.text.push(b'\r');
+            }
+        }
+    }
+
+    /// Starts that 33 or a load check refuses, the panel before it going on.
+    fn refused_starts(&mut self, draft: &Draft, theme: Theme) {
+        if self.rng.chance(15) {
+            let node = self.rng.pick(&[0, 248, 249, 255, 256, 257, 503, 65_535]);
+            self.put(&format!("node {node}"));
+            if self.rng.chance(30) {
+                self.put("slot 0 9");
+            }
+            self.put("start");
+            self.some_frames(1);
+        }
+        if let Theme::Load(number @ 2..) = theme {
+            let mut words = draft.words;
+            faults::spoil(self.rng, &mut words, number);
+            self.set_table(&words);
+            self.put("start");
+            self.some_frames(2);
+        }
+    }
+
+    fn set_node(&mut self) {
+        let good = (1..=247).contains(&self.console.node);
+        if !good || self.rng.chance(40) {
+            let node = self.rng.ends(1, 247);
+            self.put(&format!("node {node}"));
+        }
+    }
+
+    /// The slots that differ, in any order, and some that do not.
+    fn set_table(&mut self, words: &[i32; SLOTS]) {
+        let mut slots: Vec<usize> =
+            (0..SLOTS).filter(|&slot| words[slot] != self.console.words[slot]).collect();
+        if self.rng.chance(20) {
+            slots.push(self.rng.below(SLOTS as u64) as usize);
+        }
+        for i in (1..slots.len()).rev() {
+            slots.swap(i, self.rng.below(i as u64 + 1) as usize);
+        }
+        for slot in slots {
+            self.put(&format!("slot {slot} {}", words[slot]));
+        }
+    }
+
+    fn events(&mut self, wish: &Wish, anchors: &[i64]) {
+        let Some(panel) = &self.console.panel else {
+            return;
+        };
+        let most = if self.size == Size::Long { 12 } else { 6 };
+        let count = self.rng.between(0, most) as usize;
+        let (table, state) = (panel.table.clone(), panel.state);
+        for event in logs::events(self.rng, wish, &table, state, anchors, count) {
+            let words = lines::event(self.rng, event);
+            let line = lines::spelled(self.rng, &words);
+            self.put_bytes(&line);
+            if self.rng.chance(3) {
+                let levels = self.rng.ends(8, 255);
+                self.put(&format!("i {levels}"));
+            }
+        }
+    }
+
+    fn frames(&mut self) {
+        let most = if self.size == Size::Long { 6 } else { 3 };
+        let count = self.rng.between(0, most);
+        self.some_frames(count);
+        if self.rng.chance(35) {
+            self.read_back();
+        }
+    }
+
+    fn some_frames(&mut self, count: i64) {
+        for _ in 0..count {
+            let Some(panel) = &self.console.panel else {
+                return;
+            };
+            let frame = frames::frame(self.rng, panel);
+            self.put_frame(&frame);
+        }
+    }
+
+    /// Reads what resets, teaches and writes changed, or the shown value.
+    fn read_back(&mut self) {
+        let Some(panel) = &self.console.panel else {
+            return;
+        };
+        let (now, loaded) = (panel.words(), self.console.words);
+        let changed: Vec<usize> = (0..SLOTS).filter(|&slot| now[slot] != loaded[slot]).collect();
+        let place = match changed.is_empty() || self.rng.chance(30) {
+            true => Place::Shown,
+            false => Place::Slot(self.rng.pick(&changed)),
+        };
+        let frame = frames::read(panel, place);
+        self.put_frame(&frame);
+    }
+
+    fn put_frame(&mut self, frame: &[u8]) {
+        let words = lines::frame(self.rng, frame);
+        let line = lines::spelled(self.rng, &words);
+        self.put_bytes(&line);
+    }
+
+    fn odd(&mut self) {
+        let line = lines::odd(self.rng);
+        self.put_bytes(&line);
+    }
+
+    pub fn put(&mut self, line: &str) {
+        self.put_bytes(line.as_bytes());
+    }
+
+    fn put_bytes(&mut self, line: &[u8]) {
+        self.console.line(line);
+        self.text.extend(line);
+        self.text.push(b'\n');
+    }
+}
+
+/// The defaults with few slots set, so that positions up to some hundred switch and act.
+fn small(rng: &mut Rng) -> Draft {
+    let mut words = table::defaults();
+    words[slot::FORMAT] = i32::from(rng.chance(70));
+    let mut set = |rng: &mut Rng, percent, slot: usize, low, high| {
+        if rng.chance(percent) {
+            words[slot] = rng.between(low, high) as i32;
+        }
+    };
+    set(rng, 40, slot::OFFSET, 0, 200);
+    set(rng, 15, slot::DIRECTION, 1, 1);
+    set(rng, 15, slot::ROUND_LOOP, 30, 360);
+    set(rng, 25, slot::FACTOR, 50_000, 200_000);
+    set(rng, 20, slot::ADDITIVE, -200, 200);
+    set(rng, 25, slot::ANALOG, 1, 2);
+    set(rng, 60, slot::preselection(0), -50, 150);
+    set(rng, 50, slot::mode(0), 0, 6);
+    set(rng, 30, slot::hysteresis(0), 1, 20);
+    set(rng, 25, slot::pulse(0), 1, 200);
+    set(rng, 20, slot::lock(0), 1, 1);
+    set(rng, 15, slot::suppression(0), 1, 1);
+    set(rng, 20, slot::target(1), 0, 4);
+    for input in 0..3 {
+        let action = rng.pick(&[0, 1, 1, 2, 3, 4, 5, 6, 7, 8]);
+        words[slot::action(input)] = action;
+        words[slot::config(input)] = match action {
+            2 => rng.between(0, 1),
+            _ => rng.pick(&[2, 2, 2, 0, 1, 3]),
+        } as i32;
+    }
+    if rng.chance(20) {
+        words[slot::HIGH_BIT] = 24;
+        words[slot::ERROR_BIT] = 25;
+    }
+    if rng.chance(25) {
+        words[slot::LINEARIZATION] = rng.between(1, 2) as i32;
+        words[slot::x(1)] = rng.between(1, 200) as i32;
+        words[slot::y(1)] = rng.between(-300, 300) as i32;
+    }
+    let anchors = (0..3).map(|_| rng.between(0, 150)).collect();
+    Draft { words, anchors }
+}

@@ -1,0 +1,303 @@
+//! What a text of console meets, counted by name: starts, events, frames, lines that are none.
+
+use std::collections::BTreeMap;
+use std::fmt;
+
+use crate::console::{self, Command, Console, Said, Wrong, LINE};
+use crate::differ::Counts;
+use crate::modbus::{Addressee, Answered, Exception, Fault, Outcome, Place, Slave};
+use crate::panel;
+use crate::table::{self, slot, Action};
+
+/// Counts by name.
+#[derive(Clone, Debug, Default, PartialEq, Eq)]
+pub struct Tally(BTreeMap<String, u64>);
+
+/// Every name that sessions are to meet.
+pub fn names() -> Vec<String> {
+    let mut names: Vec<String> = vec!["start 0".into()];
+    names.extend((2..=9).map(|number| format!("start {number}")));
+    names.extend(["start 33", "start 33 with a table that does not load"].map(String::from));
+    names.extend(["start refused beside a running panel", "start once more"].map(String::from));
+    names.extend((10..=13).map(|note| format!("event with note {note}")));
+    names.extend((1..=3).map(|error| format!("event with error {error}")));
+    names.extend(FRAMES.map(String::from));
+    names
+        .extend((2..=9).map(|number| format!("exception 3: write refused by load check {number}")));
+    names.extend(EXCEPTIONS.map(String::from));
+    names.extend(Wrong::ALL.map(|wrong| format!("line answered: {}", wrong.words())));
+    names.extend(LINES.map(String::from));
+    names
+}
+
+const FRAMES: [&str; 22] = [
+    "read of a slot",
+    "read of the offset that a reset stored",
+    "read of a preselection that was taught",
+    "read of a slot that was written",
+    "read of the shown value",
+    "read of the shown value under freeze",
+    "read of the shown value held off the result by freeze",
+    "write carried out",
+    "write of the word that stands there",
+    "write that keeps a reset or a teach",
+    "event 1 after a write",
+    "command on a wire that was high before the write",
+    "20: under 4 bytes",
+    "20: over 256 bytes",
+    "20: function 3, not 8 bytes",
+    "20: function 16, under 9 bytes",
+    "20: function 16, not 9 and its byte count",
+    "20: wrong CRC",
+    "20: for another node or for all",
+    "no reply: another node",
+    "no reply: to all, no write",
+    "no reply: to all, write carried out",
+];
+
+const EXCEPTIONS: [&str; 10] = [
+    "no reply: to all, write refused",
+    "exception 1: function below hex 80",
+    "exception 1: function from hex 80 on",
+    "exception 1: a frame over 200 bytes",
+    "exception 2: odd register",
+    "exception 2: unmapped register",
+    "exception 2: write to the shown value",
+    "exception 3: quantity",
+    "exception 3: byte count",
+    "exception 3 before 2",
+];
+
+const LINES: [&str; 7] = [
+    "line: blank",
+    "line: remark",
+    "line with a carriage return",
+    "line of 1024 bytes",
+    "line of 1024 bytes and a carriage return",
+    "frame of 300 bytes",
+    "last line without its newline",
+];
+
+/// The text of an input and what it meets.
+pub fn observe(input: &[u8]) -> (String, Tally) {
+    observe_from(&mut Console::default(), input)
+}
+
+/// The same from a console on.
+pub fn observe_from(console: &mut Console, input: &[u8]) -> (String, Tally) {
+    let mut tally = Tally::default();
+    let mut run = Run::default();
+    let text = console::run_with(console, input, |line, before, said, after| {
+        tally.see(&mut run, line, before, said, after);
+    });
+    tally
+        .count_if(input.last().is_some_and(|&byte| byte != b'\n'), "last line without its newline");
+    (text, tally)
+}
+
+/// What is remembered of the panel that runs.
+#[derive(Default)]
+struct Run {
+    /// Slots written since the start.
+    written: Vec<usize>,
+    /// Levels before the write that began the run, where one did.
+    high: Option<u8>,
+}
+
+impl Tally {
+    pub fn of(&self, name: &str) -> u64 {
+        self.0.get(name).copied().unwrap_or(0)
+    }
+
+    pub fn count(&mut self, name: impl Into<String>) {
+        *self.0.entry(name.into()).or_default() += 1;
+    }
+
+    fn count_if(&mut self, met: bool, name: &str) {
+        if met {
+            self.count(name);
+        }
+    }
+
+    fn see(&mut self, run: &mut Run, line: &[u8], before: &Console, said: &Said, after: &Console) {
+        self.see_line(line, said);
+        match said {
+            Said::Start(refusal) => {
+                self.see_start(run, before, refusal.map(|refusal| refusal.number))
+            }
+            Said::Event(number, _, answer) => {
+                self.count("events");
+                self.count_if(answer.note != 0, &format!("event with note {}", answer.note));
+                self.count_if(answer.error != 0, &format!("event with error {}", answer.error));
+                self.count_if(*number == 1 && run.high.is_some(), "event 1 after a write");
+                self.see_wires(run, before, after);
+            }
+            Said::Frame(answered) => {
+                let (Some(before), Some(after)) = (&before.panel, &after.panel) else {
+                    unreachable!()
+                };
+                self.see_frame(run, line, before, answered, after);
+            }
+            Said::Wrong(wrong) => self.count(format!("line answered: {}", wrong.words())),
+            Said::Nothing => {}
+        }
+    }
+
+    fn see_line(&mut self, line: &[u8], said: &Said) {
+        self.count("lines");
+        let returned = line.ends_with(b"\r");
+        self.count_if(returned, "line with a carriage return");
+        let good = !matches!(said, Said::Wrong(_));
+        self.count_if(good && line.len() == LINE, "line of 1024 bytes");
+        let full = returned && line.len() == LINE + 1;
+        self.count_if(good && full, "line of 1024 bytes and a carriage return");
+        match console::command(line) {
+            Ok(Command::Blank) => self.count("line: blank"),
+            Ok(Command::Remark) => self.count("line: remark"),
+            Ok(Command::Frame(frame)) => self.count_if(frame.len() == 300, "frame of 300 bytes"),
+            _ => {}
+        }
+    }
+
+    fn see_start(&mut self, run: &mut Run, before: &Console, refusal: Option<u8>) {
+        self.count(format!("start {}", refusal.unwrap_or(0)));
+        self.count_if(
+            refusal.is_some() && before.panel.is_some(),
+            "start refused beside a running panel",
+        );
+        let loads = table::load(&before.words).is_ok();
+        self.count_if(refusal == Some(33) && !loads, "start 33 with a table that does not load");
+        if refusal.is_none() {
+            let same = |panel: &Slave| {
+                u16::from(panel.node) == before.node && *panel.loaded() == before.words
+            };
+            self.count_if(before.panel.as_ref().is_some_and(same), "start once more");
+            *run = Run::default();
+        }
+    }
+
+    /// A command that a wire asks for which was high before the write and rises anew.
+    fn see_wires(&mut self, run: &mut Run, before: &Console, after: &Console) {
+        let (Some(before), Some(after), Some(high)) = (&before.panel, &after.panel, run.high)
+        else {
+            return;
+        };
+        if before.state.levels == after.state.levels {
+            return;
+        }
+        let risen = high & after.state.levels & !before.state.levels;
+        let asked = panel::asked(&after.table, before.state.levels, before.state.levels | risen);
+        let acts = asked.iter().any(|&action| action != Action::None);
+        self.count_if(acts, "command on a wire that was high before the write");
+        run.high = Some(0);
+    }
+
+    fn see_frame(
+        &mut self,
+        run: &mut Run,
+        line: &[u8],
+        before: &Slave,
+        answered: &Answered,
+        after: &Slave,
+    ) {
+        self.count("frames");
+        match answered.outcome {
+            Outcome::Broken(fault) => self.see_fault(line, before, fault),
+            Outcome::Ignored(Addressee::Other) => self.count("no reply: another node"),
+            Outcome::Ignored(_) => self.count("no reply: to all, no write"),
+            Outcome::Read(place) => self.see_read(run, before, place),
+            Outcome::Written(to, slot) => {
+                self.count_if(to == Addressee::All, "no reply: to all, write carried out");
+                self.count_if(to == Addressee::This, "write carried out");
+                let (old, new) = (before.words(), after.words());
+                self.count_if(old == new, "write of the word that stands there");
+                let kept = (0..old.len()).any(|i| i != slot && old[i] != before.loaded()[i]);
+                self.count_if(kept, "write that keeps a reset or a teach");
+                run.written.push(slot);
+                run.high = Some(before.state.levels);
+            }
+            Outcome::Refused(Addressee::This, exception) => self.see_exception(line, exception),
+            Outcome::Refused(..) => self.count("no reply: to all, write refused"),
+        }
+    }
+
+    fn see_fault(&mut self, line: &[u8], slave: &Slave, fault: Fault) {
+        self.count(match fault {
+            Fault::Under4 => "20: under 4 bytes",
+            Fault::Over256 => "20: over 256 bytes",
+            Fault::ReadNot8 => "20: function 3, not 8 bytes",
+            Fault::WriteUnder9 => "20: function 16, under 9 bytes",
+            Fault::WriteNotItsCount => "20: function 16, not 9 and its byte count",
+            Fault::Crc => "20: wrong CRC",
+        });
+        if let Ok(Command::Frame(frame)) = console::command(line) {
+            let others = frame.first().is_some_and(|&node| node != slave.node);
+            self.count_if(others, "20: for another node or for all");
+        }
+    }
+
+    fn see_read(&mut self, run: &Run, slave: &Slave, place: Place) {
+        match place {
+            Place::Slot(slot) => {
+                self.count("read of a slot");
+                let moved = slave.words()[slot] != slave.loaded()[slot];
+                let offset = slot == slot::OFFSET;
+                self.count_if(moved && offset, "read of the offset that a reset stored");
+                self.count_if(moved && !offset, "read of a preselection that was taught");
+                self.count_if(run.written.contains(&slot), "read of a slot that was written");
+            }
+            Place::Shown => {
+                self.count("read of the shown value");
+                let frozen = panel::frozen(&slave.table, slave.state.levels);
+                self.count_if(frozen, "read of the shown value under freeze");
+                let held = slave.state.shown != slave.state.result;
+                self.count_if(held, "read of the shown value held off the result by freeze");
+            }
+        }
+    }
+
+    fn see_exception(&mut self, line: &[u8], exception: Exception) {
+        let Ok(Command::Frame(frame)) = console::command(line) else { unreachable!() };
+        match exception {
+            Exception::Function if frame[1] < 0x80 => {
+                self.count("exception 1: function below hex 80");
+                self.count_if(frame.len() > 200, "exception 1: a frame over 200 bytes");
+            }
+            Exception::Function => self.count("exception 1: function from hex 80 on"),
+            Exception::Odd => self.count("exception 2: odd register"),
+            Exception::Unmapped => self.count("exception 2: unmapped register"),
+            Exception::Shown => self.count("exception 2: write to the shown value"),
+            Exception::Quantity => self.count("exception 3: quantity"),
+            Exception::ByteCount => self.count("exception 3: byte count"),
+            Exception::Load(refusal) => {
+                self.count(format!("exception 3: write refused by load check {}", refusal.number));
+            }
+        }
+        if let Exception::Quantity | Exception::ByteCount = exception {
+            self.count_if(frame[3] & 1 == 1, "exception 3 before 2");
+        }
+    }
+
+    /// The names that were not met.
+    pub fn missing(&self) -> Vec<String> {
+        names().into_iter().filter(|name| self.of(name) == 0).collect()
+    }
+}
+
+impl Counts for Tally {
+    fn add(&mut self, other: &Tally) {
+        for (name, count) in &other.0 {
+            *self.0.entry(name.clone()).or_default() += count;
+        }
+    }
+}
+
+impl fmt::Display for Tally {
+    fn fmt(&self, f: &mut fmt::Formatter) -> fmt::Result {
+        let first = ["sessions", "lines", "events", "frames"].map(String::from);
+        for name in first.into_iter().chain(names()) {
+            writeln!(f, "{name}: {}", self.of(&name))?;
+        }
+        Ok(())
+    }
+}

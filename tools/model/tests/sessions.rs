@@ -1,0 +1,30 @@
+//! Random texts of console: what they meet, and that they are the same from the same seed.
+
+use model::differ::{console_case, Counts};
+use model::generate::sessions;
+use model::tally::Tally;
+
+const SEED: u64 = 1;
+
+#[test]
+fn sessions_meet_every_name() {
+    let mut met = Tally::default();
+    (0..800).for_each(|index| met.add(&console_case(SEED, index).met));
+    assert_eq!(met.missing(), Vec::<String>::new());
+}
+
+#[test]
+fn same_texts_from_the_same_seed() {
+    let texts = |seed| (0..20).map(|index| sessions::text(seed, index).0).collect::<Vec<_>>();
+    assert_eq!(texts(SEED), texts(SEED));
+    assert_ne!(texts(SEED), texts(SEED + 1));
+}
+
+#[test]
+fn most_writes_are_carried_out() {
+    let mut met = Tally::default();
+    (0..200).for_each(|index| met.add(&console_case(SEED, index).met));
+    let refused: u64 =
+        (2..=9).map(|n| met.of(&format!("exception 3: write refused by load check {n}"))).sum();
+    assert!(met.of("write carried out") > refused);
+}
