@@ -6,7 +6,7 @@ use std::path::Path;
 use std::process::ExitCode;
 
 use model::record::{self, Recording};
-use model::{answers, bench, console, differ, generate, panelrun, print};
+use model::{answers, bench, console, differ, generate, panelrun, print, sessions};
 
 const USAGE: &str = "usage:
   model run < input > output
@@ -15,7 +15,7 @@ const USAGE: &str = "usage:
   model generate SEED CASE > input
   model differ PANELRUN_PATH SEED COUNT
   model differ-console CONSOLE_PATH SEED COUNT
-  model record KIND SEED COUNT DIR   (runs or answers)
+  model record KIND SEED COUNT DIR   (runs, answers or sessions)
   model check KIND SEED COUNT DIR
   model step ROUNDS < input        (a sum over all answers)
   model events KIND N > input      (telegrams, levels, ticks or mixed)";
@@ -112,14 +112,14 @@ fn recording(kind: &str, seed: u64, count: u64) -> io::Result<Recording> {
     match kind {
         "runs" => Ok(record::recording(seed, count)),
         "answers" => Ok(answers::recording(seed, count)),
+        "sessions" => Ok(sessions::recording(seed, count)),
         _ => Err(io::Error::other(USAGE)),
     }
 }
 
 fn write_record(recording: &Recording, folder: &str) -> io::Result<bool> {
     recording.write(Path::new(folder))?;
-    let count = recording.purposes.lines().count();
-    println!("{}: {count} cases, {} bytes", recording.name, recording.cases.len());
+    println!("{}: {} bytes", recording.name, recording.cases.len());
     Ok(true)
 }
 

@@ -11,16 +11,28 @@ use crate::rng::Rng;
 /// Inputs tried for a case until one meets its theme.
 const TRIES: u64 = 400;
 
-/// Recorded cases and a line for each, as the files `NAME.bin` and `NAME.txt`.
+/// Recorded cases in two files of a folder.
 pub struct Recording {
     pub name: &'static str,
+    /// The files' names: the cases, and the purpose of each or what a program prints for them.
+    files: [String; 2],
     pub cases: Vec<u8>,
     pub purposes: String,
 }
 
 impl Recording {
+    /// Cases and a line for each, as the files `NAME.bin` and `NAME.txt`.
     pub fn new(name: &'static str) -> Recording {
-        Recording { name, cases: Vec::new(), purposes: String::new() }
+        Recording::in_files(name, ["bin", "txt"].map(|end| format!("{name}.{end}")))
+    }
+
+    /// What a program reads and what it prints, as the files `stdin` and `stdout`.
+    pub fn of_a_program(name: &'static str) -> Recording {
+        Recording::in_files(name, ["stdin", "stdout"].map(String::from))
+    }
+
+    fn in_files(name: &'static str, files: [String; 2]) -> Recording {
+        Recording { name, files, cases: Vec::new(), purposes: String::new() }
     }
 
     /// Writes the files into a folder.
@@ -36,8 +48,8 @@ impl Recording {
     }
 
     fn files(&self, folder: &Path) -> [(PathBuf, &[u8]); 2] {
-        let path = |end: &str| folder.join(format!("{}.{end}", self.name));
-        [(path("bin"), &self.cases[..]), (path("txt"), self.purposes.as_bytes())]
+        let [cases, purposes] = &self.files;
+        [(folder.join(cases), &self.cases[..]), (folder.join(purposes), self.purposes.as_bytes())]
     }
 }
 

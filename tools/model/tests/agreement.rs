@@ -1,6 +1,7 @@
 //! The 64-bit panel against the exact reference, and the generator against its purposes.
 
 use model::coverage::{observe, Coverage};
+use model::differ::Counts;
 use model::fast::Panel;
 use model::generate::{self, theme};
 use model::log;

@@ -2,7 +2,7 @@
 
 use model::differ::{console_case, Counts};
 use model::generate::sessions;
-use model::tally::Tally;
+use model::tally::{self, Tally};
 
 const SEED: u64 = 1;
 
@@ -27,4 +27,13 @@ fn most_writes_are_carried_out() {
     let refused: u64 =
         (2..=9).map(|n| met.of(&format!("exception 3: write refused by load check {n}"))).sum();
     assert!(met.of("write carried out") > refused);
+}
+
+#[test]
+fn recorded_sessions_meet_every_name() {
+    let recording = model::sessions::recording(SEED, 60);
+    let (output, met) = tally::observe(&recording.cases);
+    assert_eq!(output, recording.purposes);
+    assert_eq!(met.missing(), Vec::<String>::new());
+    assert!(recording.cases.len() < 60_000);
 }

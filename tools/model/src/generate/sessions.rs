@@ -6,7 +6,7 @@ use super::{faults, frames, lines, logs};
 use crate::console::Console;
 use crate::modbus::Place;
 use crate::rng::Rng;
-use crate::table::{self, slot, SLOTS};
+use crate::table::{self, slot, SLOTS, Z};
 
 /// How long the sessions of a text are.
 #[derive(Clone, Copy, Debug, PartialEq, Eq)]
@@ -244,15 +244,25 @@ fn small(rng: &mut Rng) -> Draft {
             _ => rng.pick(&[2, 2, 2, 0, 1, 3]),
         } as i32;
     }
-    if rng.chance(20) {
-        words[slot::HIGH_BIT] = 24;
-        words[slot::ERROR_BIT] = 25;
+    let mut reach = 150;
+    match rng.below(10) {
+        0 | 1 => {
+            words[slot::HIGH_BIT] = 24;
+            words[slot::ERROR_BIT] = 25;
+        }
+        2 => {
+            words[slot::RESOLUTION] = 32;
+            words[slot::HIGH_BIT] = 32;
+            reach = 2 * i64::from(Z);
+        }
+        3 => words[slot::ADDITIVE] = rng.pick(&[-1, 1]) * (Z - rng.between(0, 99) as i32),
+        _ => {}
     }
     if rng.chance(25) {
         words[slot::LINEARIZATION] = rng.between(1, 2) as i32;
         words[slot::x(1)] = rng.between(1, 200) as i32;
         words[slot::y(1)] = rng.between(-300, 300) as i32;
     }
-    let anchors = (0..3).map(|_| rng.between(0, 150)).collect();
+    let anchors = (0..3).map(|_| rng.between(0, reach)).collect();
     Draft { words, anchors }
 }

@@ -1,0 +1,91 @@
+//! Recorded sessions of console: one text with what the model writes for it, and a remark over each
+//! session that says what it is for.
+
+use crate::console::Console;
+use crate::differ::Counts;
+use crate::generate::sessions::{Size, Writer};
+use crate::record::Recording;
+use crate::rng::Rng;
+use crate::tally::{self, Tally};
+
+/// Texts tried for a session.
+const TRIES: u64 = 20_000;
+/// Most bytes of a session, unless a long line is what it is for.
+const BYTES: usize = 900;
+const LONG_BYTES: usize = 2_600;
+
+/// The sessions of a seed; the first before any start, the last without its newline.
+pub fn recording(seed: u64, count: u64) -> Recording {
+    let mut recording = Recording::of_a_program("sessions");
+    let mut console = Console::default();
+    let mut met = Tally::default();
+    for index in 0..count {
+        let purpose = purpose(index, count, &met);
+        let (text, output, seen) = session(seed, index, count, &purpose, &mut console);
+        recording.cases.extend(text);
+        recording.purposes.push_str(&output);
+        met.add(&seen);
+    }
+    recording
+}
+
+/// The first of the names that the sessions before met least; the last name is the last session's.
+fn purpose(index: u64, count: u64, met: &Tally) -> String {
+    let mut names = tally::names();
+    let last = names.pop().unwrap();
+    let before_a_start = |name: &&String| name.contains("no panel runs yet");
+    let chosen = match index {
+        0 => names.iter().find(before_a_start).unwrap(),
+        _ if index + 1 == count => &last,
+        _ => names
+            .iter()
+            .filter(|name| !before_a_start(name))
+            .min_by_key(|name| met.of(name))
+            .unwrap(),
+    };
+    chosen.clone()
+}
+
+/// Text and output of the first try that meets its purpose; the console after it.
+fn session(
+    seed: u64,
+    index: u64,
+    count: u64,
+    purpose: &str,
+    console: &mut Console,
+) -> (Vec<u8>, String, Tally) {
+    let mut rng = Rng::for_case(seed, index);
+    for _ in 0..TRIES {
+        let mut writer = Writer::new(&mut rng, Size::Short, console.clone());
+        writer.put(&format!("# {}. {purpose}", index + 1));
+        if index == 0 {
+            writer.before_a_start();
+        }
+        writer.session();
+        if index + 1 == count {
+            writer.text.pop();
+        }
+        let text = writer.text;
+        let mut after = console.clone();
+        let (output, seen) = tally::observe_from(&mut after, &text);
+        if seen.of(purpose) > 0 && text.len() <= longest(purpose) && shows(&text) {
+            *console = after;
+            return (text, output, seen);
+        }
+    }
+    panic!("no session for {purpose}");
+}
+
+fn longest(purpose: &str) -> usize {
+    let long = ["1024", "300", "256", "200"].iter().any(|length| purpose.contains(length));
+    if long {
+        LONG_BYTES
+    } else {
+        BYTES
+    }
+}
+
+/// Only bytes that a diff shows; a carriage return is one of them.
+fn shows(text: &[u8]) -> bool {
+    text.iter().all(|&byte| matches!(byte, b'\t' | b'\n' | b'\r' | b' '..=b'~'))
+}
