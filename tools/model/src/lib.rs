@@ -18,6 +18,7 @@ pub mod panelrun;
 pub mod print;
 pub mod record;
 pub mod rng;
+pub mod serve;
 pub mod sessions;
 pub mod table;
 pub mod tally;

@@ -6,7 +6,7 @@ use std::path::Path;
 use std::process::ExitCode;
 
 use model::record::{self, Recording};
-use model::{answers, bench, console, differ, generate, panelrun, print, sessions};
+use model::{answers, bench, console, differ, generate, panelrun, print, serve, sessions};
 
 const USAGE: &str = "usage:
   model run < input > output
@@ -18,7 +18,9 @@ const USAGE: &str = "usage:
   model record KIND SEED COUNT DIR   (runs, answers or sessions)
   model check KIND SEED COUNT DIR
   model step ROUNDS < input        (a sum over all answers)
-  model events KIND N > input      (telegrams, levels, ticks or mixed)";
+  model events KIND N > input      (telegrams, levels, ticks or mixed)
+  model serve ROUNDS < input       (a sum over all replies)
+  model frames KIND N > input      (read, write or mixed)";
 
 fn main() -> ExitCode {
     let words: Vec<String> = env::args().skip(1).collect();
@@ -53,6 +55,14 @@ fn command(words: &[&str]) -> io::Result<bool> {
         ["step", rounds] => step(number(rounds)?),
         ["events", kind, count] if bench::KINDS.contains(kind) => {
             io::stdout().lock().write_all(&bench::input(kind, number(count)? as usize))?;
+            Ok(true)
+        }
+        ["serve", rounds] => {
+            println!("{}", serve::sum(&input()?, number(rounds)?));
+            Ok(true)
+        }
+        ["frames", kind, count] if serve::KINDS.contains(kind) => {
+            io::stdout().lock().write_all(&serve::input(kind, number(count)? as usize))?;
             Ok(true)
         }
         _ => Err(io::Error::other(USAGE)),

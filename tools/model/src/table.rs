@@ -80,7 +80,7 @@ impl Row {
 }
 
 /// The row of a slot.
-pub fn row(slot: usize) -> Row {
+pub const fn row(slot: usize) -> Row {
     let (low, high, default) = match slot {
         0 => (10, 32, 25),
         1 => (10, 16, 13),
@@ -107,7 +107,7 @@ pub fn row(slot: usize) -> Row {
 }
 
 /// The eight rows of preselection k + 1.
-fn preselection_row(k: usize, place: usize) -> (i32, i32, i32) {
+const fn preselection_row(k: usize, place: usize) -> (i32, i32, i32) {
     let number = k as i32 + 1;
     match place {
         0 => (-Z, Z, 1_000 * number),
@@ -118,6 +118,17 @@ fn preselection_row(k: usize, place: usize) -> (i32, i32, i32) {
         _ => (0, 1, 0),
     }
 }
+
+/// The rows of all slots, worked out once.
+static ROWS: [Row; SLOTS] = {
+    let mut rows = [row(0); SLOTS];
+    let mut slot = 1;
+    while slot < SLOTS {
+        rows[slot] = row(slot);
+        slot += 1;
+    }
+    rows
+};
 
 /// The table of defaults.
 pub fn defaults() -> [i32; SLOTS] {
@@ -240,7 +251,7 @@ pub fn load(words: &[i32]) -> Result<Table, LoadRefusal> {
     if words.len() != SLOTS {
         return Err(LoadRefusal { number: 1, slot: 0 });
     }
-    if let Some(slot) = (0..SLOTS).find(|&slot| !row(slot).holds(words[slot])) {
+    if let Some(slot) = (0..SLOTS).find(|&slot| !ROWS[slot].holds(words[slot])) {
         return Err(LoadRefusal { number: 2, slot });
     }
     let table = Table::from_words(words);

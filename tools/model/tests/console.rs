@@ -183,3 +183,10 @@ fn served_as_run() {
     console::serve(text, &mut output).unwrap();
     assert_eq!(output, console::run(text).into_bytes());
 }
+
+#[test]
+fn session_worked_out_by_hand() {
+    let input = include_bytes!("../../../crates/console/stdin");
+    let expected = include_str!("../../../crates/console/stdout");
+    assert_eq!(console::run(input), expected);
+}
