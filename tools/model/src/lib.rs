@@ -20,6 +20,7 @@ pub mod record;
 pub mod rng;
 pub mod serve;
 pub mod sessions;
+pub mod slave;
 pub mod table;
 pub mod tally;
 pub mod telegram;

@@ -6,12 +6,13 @@ use std::path::Path;
 use std::process::ExitCode;
 
 use model::record::{self, Recording};
-use model::{answers, bench, console, differ, generate, panelrun, print, serve, sessions};
+use model::{answers, bench, console, differ, generate, panelrun, print, serve, sessions, slave};
 
 const USAGE: &str = "usage:
   model run < input > output
   model print < input > output
   model console < text > text
+  model slave NODE TABLE [EVENTS]  (a serial line on standard input and output)
   model generate SEED CASE > input
   model differ PANELRUN_PATH SEED COUNT
   model differ-console CONSOLE_PATH SEED COUNT
@@ -41,6 +42,8 @@ fn command(words: &[&str]) -> io::Result<bool> {
         ["run"] => run(),
         ["print"] => print::print(io::stdin().lock(), io::stdout().lock()).map(|()| true),
         ["console"] => console::serve(io::stdin().lock(), io::stdout().lock()).map(|()| true),
+        ["slave", node, table] => slave::run(node, table, None),
+        ["slave", node, table, events] => slave::run(node, table, Some(events)),
         ["generate", seed, case] => generate_case(number(seed)?, number(case)?),
         ["differ", program, seed, count] => compare(program, number(seed)?, number(count)?),
         ["differ-console", program, seed, count] => {
