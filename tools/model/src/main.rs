@@ -1,4 +1,4 @@
-//! Commands of the model: run, print, generate, differ, record, check, step, events.
+//! Commands of the model, as `USAGE` lists them.
 
 use std::env;
 use std::io::{self, Read, Write};
