@@ -1,5 +1,6 @@
 """Serial lines over pseudo terminals: one slave behind socat, or some slaves on one line."""
 
+import atexit
 import os
 import select
 import signal
@@ -10,6 +11,13 @@ import time
 import tty
 
 TENTH = 0.1
+
+
+def started(*arguments, **options):
+    """A process that does not outlive this one."""
+    process = subprocess.Popen(*arguments, **options)
+    atexit.register(lambda: process.poll() is None and process.terminate())
+    return process
 
 
 def pause(seconds):
@@ -43,7 +51,7 @@ class SocatLine:
     def __init__(self, folder, name, command):
         self.path = os.path.join(folder, name)
         self.errors = self.path + ".errors"
-        self.process = subprocess.Popen(
+        self.process = started(
             ["socat", f"pty,raw,echo=0,link={self.path}", f"EXEC:{command},pty,raw,echo=0,vmin=0,vtime=1"],
             stderr=open(self.errors, "wb"),
         )
@@ -96,7 +104,7 @@ class Bus:
         for i, command in enumerate(commands):
             port, end = raw_terminal(0, 1)
             errors = open(os.path.join(folder, f"bus.{i}.errors"), "wb")
-            self.processes.append(subprocess.Popen(command.split(), stdin=end, stdout=end, stderr=errors))
+            self.processes.append(started(command.split(), stdin=end, stdout=end, stderr=errors))
             self.ports.append(port)
             self.ends.append(end)
         self.running = True
@@ -131,7 +139,7 @@ class Feed:
 
     def __init__(self, folder):
         self.typed, self.path = os.path.join(folder, "typed"), os.path.join(folder, "events.terminal")
-        self.process = subprocess.Popen(
+        self.process = started(
             ["socat", f"pty,raw,echo=0,link={self.typed}", f"pty,raw,echo=0,vmin=0,vtime=0,link={self.path}"]
         )
         until(lambda: os.path.exists(self.typed) and os.path.exists(self.path))

@@ -308,7 +308,10 @@ def main():
     for part in parts:
         before, start = passed, time.monotonic()
         with tempfile.TemporaryDirectory() as folder:
-            part(folder)
+            try:
+                part(folder)
+            except (OSError, RuntimeError, ValueError, subprocess.SubprocessError) as trouble:
+                check(part.__name__.replace("_", " "), repr(trouble), "no trouble")
         print(f"{part.__name__.replace('_', ' ')}: {passed - before} passed, {time.monotonic() - start:.1f} s", flush=True)
     print(f"\n{'round trip, ms':52} {'median':>8} {'99th':>8} {'polls a second':>15}")
     for name, median, late, rate in figures:
