@@ -12,7 +12,7 @@ use Rattle.commands.specs.State.{stateOf, freshOf}
 use Rattle.modbus.specs.declared.Request.{Request}
 use Rattle.modbus.specs.declared.Request.the-variants.{Broken, Ignored, Exception, Read, Write}
 use Rattle.modbus.specs.declared.replies.Reply.{Reply}
-use Rattle.modbus.specs.Request.{shownRegister, askedOf}
+use Rattle.modbus.specs.Request.{writeFunction, shownRegister, askedOf}
 use Rattle.modbus.specs.Replies.{readReply, writeReply, exceptionReply, packed}
 use Rattle.parameters.specs.Load.{loadNumber}
 use Rattle.parameters.specs.Slots.{wordAt, withWord}
@@ -67,7 +67,7 @@ unfoldable pub writtenOf : ℕ → State → Bool → ℕ → ℤ → Served
 writtenOf node s due register z =
     cond (eqb (loadNumber (writtenTable s register z)) 0)
     (carriedOut node s due register z)
-    (unchanged s (sent due (packed (exceptionReply node 16 3))) 0)
+    (unchanged s (sent due (packed (exceptionReply node writeFunction 3))) 0)
 
 -- ---- a frame
 

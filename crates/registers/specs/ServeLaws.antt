@@ -20,7 +20,7 @@ use Rattle.modbus.specs.declared.Request.the-variants.{Broken, Ignored, Excepti
 use Rattle.modbus.specs.declared.Demand.{Demand}
 use Rattle.modbus.specs.declared.replies.Reply.{Reply}
 use Rattle.modbus.specs.CrcLaws.{Bytes}
-use Rattle.modbus.specs.Request.{addressIn, isBroken, isWrite, requestIn, shownRegister, isMapped, silent, replied, askedOf}
+use Rattle.modbus.specs.Request.{addressIn, isBroken, writeFunction, shownRegister, isMapped, silent, askedOf}
 use Rattle.modbus.specs.RequestLaws.{one-byte-seen}
 use Rattle.modbus.specs.RoundTripLaws.{read-asked, write-asked, write-asked-of-all}
 use Rattle.modbus.specs.Crc.{sealed}
@@ -123,7 +123,7 @@ module _ (node : ℕ) (s : State) (due : Bool) (register : ℕ) (z : ℤ) (t : L
   unfolding loadedOf
   number-of-load = rw (k, e) (answer-number (writtenTable s register z))
 
-  pub refused-write : (l .number ≡ 0 → ⊥) → unchanged s (sent due (packed (exceptionReply node 16 3))) 0 ≡ writtenOf node s due register z
+  pub refused-write : (l .number ≡ 0 → ⊥) → unchanged s (sent due (packed (exceptionReply node writeFunction 3))) 0 ≡ writtenOf node s due register z
   unfolding writtenOf
   refused-write n = rw (ne-eqb (loadNumber (writtenTable s register z)) 0 (λ q. n (number-of-load ∙ q)))
 

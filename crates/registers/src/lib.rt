@@ -22,9 +22,6 @@ const LOWEST_NODE: u32 = 1;
 
 const HIGHEST_NODE: u32 = 247;
 
-// The register of the shown value.
-const SHOWN_REGISTER: u16 = 0x1000;
-
 // What a frame leaves beside the table.
 pub struct Response {
     // The live values after it.
@@ -68,7 +65,7 @@ fn word_in(t: &[i32; 104], shown: i32, register: u16) -> i32
     requires { ⌜ Valid (now t) ⌝ }
     ensures { λ r. ⌜ r ≡ wordIn (now (t .entry)) shown register ⌝ }
 {
-    if register == SHOWN_REGISTER {
+    if register == modbus::SHOWN_REGISTER {
         return shown;
     }
     let slot = (register / 2) as usize;
@@ -108,7 +105,7 @@ fn write(node: u8, t: &mut [i32; 104], l: Live, due: bool, register: u16, z: i32
     let next = parameters::changed(*t, slot, z);
     let x = panel::load(&next);
     if x.number != 0 {
-        return unchanged(l, send(due, replies::exception_reply(node, 16, 3)), 0);
+        return unchanged(l, send(due, replies::exception_reply(node, modbus::WRITE, 3)), 0);
     }
     let s = x.state;
     let live = s.live;
