@@ -83,7 +83,9 @@ request-fits node s due Ignored = omega arith
 request-fits node s due (Exception function code) = sent-fits due _ (omega arith)
 request-fits node s due (Read register) = sent-fits due _ (omega arith)
 request-fits node s due (Write register z) =
-    by-test (eqb (loadNumber (writtenTable s register z)) 0) _ _ (λ (x : Served). x .reply .length ≤ longestReply) (λ _. sent-fits due _ (omega arith)) (λ _. sent-fits due _ (omega arith))
+    by-test (eqb (loadNumber (writtenTable s register z)) 0) _ _ (λ (x : Served). x .reply .length ≤ longestReply)
+    (λ _. sent-fits _ (packed (writeReply node register)) (omega arith))
+    (λ _. sent-fits _ (packed (exceptionReply node writeFunction 3)) (omega arith))
 
 pub reply-fits : (node : ℕ) (s : State) (f : List ℕ) → servedOf node s f .reply .length ≤ longestReply
 unfolding servedOf
