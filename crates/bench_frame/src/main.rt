@@ -50,9 +50,11 @@ fn with_answer(sum: u64, reply: Reply, number: u8) -> u64
     mixed(with_bytes(sum, &bytes[..n]), number as u64)
 }
 
-// The live values and the sum so far.
+// What an answer leaves beside the table.
 struct Summed {
+    // The live values.
     live: Live,
+    // The sum so far.
     sum: u64,
 }
 

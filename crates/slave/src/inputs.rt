@@ -13,6 +13,7 @@ ghost use Rattle.slave.specs.Inputs.{listedOf, movedOf, keptOf, steppedO
 
 // A table after a line.
 pub struct Listed {
+    // The table.
     pub table: [i32; 104],
     // Whether the line was one of TABLE.
     pub fits: bool,
@@ -20,6 +21,7 @@ pub struct Listed {
 
 // A panel after a line.
 pub struct Stepped {
+    // The panel.
     pub state: State,
     // Whether the line was one of EVENTS.
     pub fits: bool,
@@ -27,6 +29,7 @@ pub struct Stepped {
 
 // A panel after a frame.
 pub struct Replied {
+    // The panel.
     pub state: State,
     // The reply's bytes, none where no reply is due.
     pub reply: Reply,

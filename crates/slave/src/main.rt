@@ -18,6 +18,7 @@ mod stream; // stream.rt: the lines of a file or a terminal
 
 // A table as far as TABLE was read.
 struct Table {
+    // Its words.
     words: [i32; 104],
     // Whether all its lines fit.
     fits: bool,
@@ -25,14 +26,17 @@ struct Table {
 
 // A panel and the events that come to it.
 struct Fed {
+    // The panel.
     state: State,
     // The lines of EVENTS.
     events: Stream,
 }
 
-// The slave between two bytes of the serial line.
+// The slave between two reads of the serial line.
 struct Slave {
+    // Its node address.
     node: u8,
+    // Its panel and events.
     fed: Fed,
     // The bytes of the serial line since its last frame.
     line: Collector,
@@ -87,6 +91,7 @@ fn drained(x: Fed) -> Fed
     ensures { λ r. ⌜ Good (r .state) ⌝ }
 {
     let mut events = x.events;
+    // There is no EVENTS.
     if events.fd < 0 {
         return x;
     }

@@ -1,11 +1,9 @@
 -- `slave::inputs::frame` meets its contract: what is answered are the bytes held, as `registers` answers them.
-use mathlib.Core.Path.{_≡_, sym, ap, _∙_}
-use Prim.Native.Nat.{ℕ}
+use mathlib.Core.Path.{_≡_, sym, ap}
 use native.Mathlib.Omega.{arith}
-use lib.ListN.{length, take}
+use lib.ListN.{length}
 use lib.Seq.{length-take-le}
 use Rattle.framing.specs.CollectorLaws.{held-is}
-use Rattle.registers.specs.Serve.{servedOf}
 use Rattle.slave.specs.Inputs.{repliedBy}
 use borrow.Author.Needs.{needs}
 use Rattle.slave.proofs.inputs.frame.Statement.{statement}
@@ -35,8 +33,7 @@ returns c =
     let held = c .before .before .before .before .before in
     let start = held .before .before .before .before in
     let line = start .args .line in
-    let bytes = ap (λ (n : ℕ). take n (line .bytes)) (held .held-length .ensures .0) ∙ held-is line (room start) in
-    let is = answer .ensures .0 ∙ ap (servedOf (start .args .node) (start .args .s)) bytes in
+    let is = rw (held .held-length .ensures .0, held-is line (room start)) at (answer .ensures .0) in
     (ap repliedBy is, answer .ensures .1)
 
 pub frame-spec : {M : Type 1} → statement M
