@@ -168,17 +168,22 @@ fn after_bytes(x: Slave, bytes: &[u8]) -> Slave
     y
 }
 
-// The slave after a silence of the line: a terminal only pauses, a file has ended.
+// The slave after a silence of the line: a terminal only pauses, a file has ended. The events are drained here too, so that they do not pile up while
+// nobody asks, and a wrong line is named soon.
 fn after_silence(x: Slave) -> Slave
     requires { ⌜ Good (x .fed .state) ⌝ }
     ensures { λ r. ⌜ Good (r .fed .state) ⌝ }
 {
-    let line = x.line;
-    let mut y = heard(x, framing::silence(line));
+    let before = x.fed;
+    let fed = drained(before);
+    let mut y = x;
+    y.fed = fed;
+    let line = y.line;
+    let mut z = heard(y, framing::silence(line));
     if libc::isatty(STDIN_FILENO) != 1 {
-        y.more = false;
+        z.more = false;
     }
-    y
+    z
 }
 
 // The slave after one read of the line.
