@@ -174,7 +174,7 @@ fn judge(node: u8, c: Collector) -> Collector
 }
 
 // One byte from the line.
-pub fn push(node: u8, c: Collector, b: u8) -> Collector
+fn push(node: u8, c: Collector, b: u8) -> Collector
     ensures { λ r. ⌜ r ≡ pushed node c b ⌝ }
 {
     let n = still_held(c);

@@ -93,14 +93,13 @@ reply-fits node s f = request-fits node s (askedOf node f .reply) (askedOf node 
 
 pub promised : (node : ℕ) (s : State) (f : List ℕ) (x : Served) → Good s → x ≡ servedOf node s f →
     (x ≡ servedOf node s f) × (Good (x .state) × (x .reply .length ≤ longestReply))
-promised node s f x g is =
-    (
-      is,
-      (
-        subst (λ (y : Served). Good (y .state)) (sym is) (good-served node g f),
-        subst (λ (y : Served). y .reply .length ≤ longestReply) (sym is) (reply-fits node s f),
-      ),
-    )
+promised node s f x g is = (
+  is,
+  (
+    subst (λ (y : Served). Good (y .state)) (sym is) (good-served node g f),
+    subst (λ (y : Served). y .reply .length ≤ longestReply) (sym is) (reply-fits node s f),
+  ),
+)
 
 -- A FRAME THAT IS NOT A WRITE CARRIED OUT CHANGES NOTHING AT ALL
 pub still : (node : ℕ) (s : State) (f : List ℕ) → servedOf node s f .afresh ≡ false → servedOf node s f .state ≡ s

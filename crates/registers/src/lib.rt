@@ -105,7 +105,11 @@ fn write(node: u8, t: &mut [i32; 104], l: Live, due: bool, register: u16, z: i32
     let next = parameters::changed(*t, slot, z);
     let x = panel::load(&next);
     if x.number != 0 {
-        return unchanged(l, send(due, replies::exception_reply(node, modbus::WRITE, 3)), 0);
+        return unchanged(
+            l,
+            send(due, replies::exception_reply(node, modbus::WRITE, 3)),
+            0,
+        );
     }
     let s = x.state;
     let live = s.live;
@@ -129,7 +133,11 @@ fn request(node: u8, t: &mut [i32; 104], l: Live, d: Demand) -> Response
         Request::Broken => unchanged(l, replies::no_reply(), 20),
         Request::Ignored => unchanged(l, replies::no_reply(), 0),
         Request::Exception(function, code) => {
-            unchanged(l, send(due, replies::exception_reply(node, function, code)), 0)
+            unchanged(
+                l,
+                send(due, replies::exception_reply(node, function, code)),
+                0,
+            )
         }
         Request::Read(register) => {
             let z = word_in(t, l.shown, register);

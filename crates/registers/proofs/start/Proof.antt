@@ -26,8 +26,7 @@ fresh-requires c κs = search needs
 returns-2 : tie.Need-returns-2
 unfolding startedOf
 returns-2 c = let d = c .before in
-    let test = d .before in
-    (
+    let test = d .before in (
       rw (← test .before .is-node .ensures, test .if1 .left, c .fresh .ensures, d .defaults .ensures),
       rw (c .fresh .ensures, d .defaults .ensures) (good-fresh defaults-valid),
     )
