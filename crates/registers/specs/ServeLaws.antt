@@ -35,11 +35,6 @@ use Rattle.parameters.specs.Valid.{Valid, loads}
 use Rattle.reading.specs.Reading.{directedOf}
 use Rattle.registers.specs.Serve.{Served, slotIn, wordIn, sent, unchanged, writtenTable, carriedOut, writtenOf, requestOf, servedOf}
 
--- what the code makes of a load that is not refused
-abbrev pub started : ℕ → List ℤ → Loaded → Bool → ℕ → Served
-started node t l due register =
-    record { state = stateOf t (l .state .live); reply = sent due (packed (writeReply node register)); number = 0; afresh = true }
-
 -- ---- every frame
 
 -- a frame changes nothing, or it is a write carried out, of a table that loads
@@ -116,21 +111,6 @@ afresh node s f =
     by-served node s f (λ (x : Served). x .afresh ≡ true → Afresh (x .state))
     (λ reply n k. let w : _≡_ {A = ℕ} 0 1 = cc in absurd (omega arith))
     (λ register z e k. record { loads = e; fresh = refl })
-
--- ---- a write as the load answers it
-
-module _ (node : ℕ) (s : State) (due : Bool) (register : ℕ) (z : ℤ) (t : List ℤ) (l : Loaded) (e : t ≡ writtenTable s register z) (k : l ≡ loadedOf t) where
-  number-of-load : l .number ≡ loadNumber (writtenTable s register z)
-  unfolding loadedOf
-  number-of-load = rw (k, e) (answer-number (writtenTable s register z))
-
-  pub refused-write : (l .number ≡ 0 → ⊥) → unchanged s (sent due (packed (exceptionReply node writeFunction 3))) 0 ≡ writtenOf node s due register z
-  unfolding writtenOf
-  refused-write n = rw (ne-eqb (loadNumber (writtenTable s register z)) 0 (λ q. n (number-of-load ∙ q)))
-
-  pub write-done : l .number ≡ 0 → started node t l due register ≡ writtenOf node s due register z
-  unfolding writtenOf loadedOf freshOf
-  write-done n = rw (eq-eqb (loadNumber (writtenTable s register z)) 0 (sym number-of-load ∙ n), k, e)
 
 -- ---- whom a frame is for
 
@@ -237,3 +217,23 @@ pub teach-read : (node : ℕ) (s : State) (k : ℕ) → k < 4 → (node ≡ 0 �
 unfolding teachOf
 teach-read node s k h o v =
     ap Served.reply (slot-read node (teachOf s k) (preselectionSlot k) (omega arith) o) ∙ ap (λ (y : ℤ). packed (readReply node y)) (preselection-stored k _ v h)
+
+-- ---- a write as the load answers it
+
+-- what the code makes of a load that is not refused
+abbrev pub started : ℕ → List ℤ → Loaded → Bool → ℕ → Served
+started node t l due register =
+    record { state = stateOf t (l .state .live); reply = sent due (packed (writeReply node register)); number = 0; afresh = true }
+
+module _ (node : ℕ) (s : State) (due : Bool) (register : ℕ) (z : ℤ) (t : List ℤ) (l : Loaded) (e : t ≡ writtenTable s register z) (k : l ≡ loadedOf t) where
+  number-of-load : l .number ≡ loadNumber (writtenTable s register z)
+  unfolding loadedOf
+  number-of-load = rw (k, e) (answer-number (writtenTable s register z))
+
+  pub refused-write : (l .number ≡ 0 → ⊥) → unchanged s (sent due (packed (exceptionReply node writeFunction 3))) 0 ≡ writtenOf node s due register z
+  unfolding writtenOf
+  refused-write n = rw (ne-eqb (loadNumber (writtenTable s register z)) 0 (λ q. n (number-of-load ∙ q)))
+
+  pub write-done : l .number ≡ 0 → started node t l due register ≡ writtenOf node s due register z
+  unfolding writtenOf loadedOf freshOf
+  write-done n = rw (eq-eqb (loadNumber (writtenTable s register z)) 0 (sym number-of-load ∙ n), k, e)
