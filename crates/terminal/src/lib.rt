@@ -9,15 +9,19 @@ ghost use mathlib.Core.Path.{_≡_};
 ghost use Prim.Native.Nat.{_≤_};
 ghost use lib.ListN.{length};
 ghost use Rattle.dialog.specs.Dialog.{Ready};
+ghost use Rattle.terminal.specs.Talk.{answeredOf, talked, talkedAll};
 
 // The dialog, and the line that has not ended yet.
 struct Talk {
+    // What is kept between lines.
     console: Console,
+    // The bytes since the last newline.
     collector: Collector,
 }
 
 // What a piece of the input leaves.
 struct Turn {
+    // The dialog after it.
     talk: Talk,
     // Whether the input goes on.
     more: bool,
@@ -26,7 +30,8 @@ struct Turn {
 // A line that has ended: it is answered.
 fn answer(c: Console, l: Collector) -> Console
     requires { ⌜ Ready c ⌝ }
-    ensures { λ r. ⌜ Ready r ⌝ }
+    ensures is { λ r. ⌜ r ≡ answeredOf c l ⌝ }
+    ensures ready { λ r. ⌜ Ready r ⌝ }
 {
     let bytes = l.bytes;
     let n = collector::held(l);
@@ -40,7 +45,8 @@ fn answer(c: Console, l: Collector) -> Console
 // One byte of the input.
 fn take(t: Talk, b: u8) -> Talk
     requires { ⌜ Ready (t .console) ⌝ }
-    ensures { λ r. ⌜ Ready (r .console) ⌝ }
+    ensures is { λ r. ⌜ r ≡ talked t b ⌝ }
+    ensures ready { λ r. ⌜ Ready (r .console) ⌝ }
 {
     let before = t.collector;
     let l = collector::push(before, b);
@@ -60,7 +66,8 @@ fn take(t: Talk, b: u8) -> Talk
 // The bytes of a piece of the input.
 fn take_all(t: Talk, bytes: &[u8]) -> Talk
     requires { ⌜ Ready (t .console) ⌝ }
-    ensures { λ r. ⌜ Ready (r .console) ⌝ }
+    ensures is { λ r. ⌜ r ≡ talkedAll t (now (bytes .entry)) ⌝ }
+    ensures ready { λ r. ⌜ Ready (r .console) ⌝ }
 {
     let mut u = t;
     let mut i: usize = 0;

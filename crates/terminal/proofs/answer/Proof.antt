@@ -35,7 +35,10 @@ write-all-requires : tie.Need-write-all-requires
 write-all-requires c κs = search needs
 
 returns : tie.Need-returns
-returns c = search needs
+returns c =
+    let line = c .before .before .before .before in
+    let h = line .before .before .before in
+    (rw (← h .held .ensures .0) (line .line .ensures .0), line .line .ensures .1 .1 .0)
 
 pub answer-spec : {M : Type 1} → statement M
 answer-spec =
