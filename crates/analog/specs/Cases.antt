@@ -39,9 +39,9 @@ pub held-at-zero : codeOf 2 (pos 0) (pos 10000) (negsuc 0) ≡ pos 0
 unfolding codeOf held roundDiv
 held-at-zero = refl
 
-pub turned : codeOf 1 (pos 10000) (pos 0) (pos 2500) ≡ pos 49151
+pub mirrored : codeOf 1 (pos 10000) (pos 0) (pos 2500) ≡ pos 49151
 unfolding codeOf held roundDiv
-turned = refl
+mirrored = refl
 
 -- Analog value, "off means 0 V or 0 mA, also in format 2"; the lowest drive of format 2 is 4 mA
 pub off-is-zero : driveValue Off ≡ frac (pos 0) 1

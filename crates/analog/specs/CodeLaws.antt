@@ -24,8 +24,8 @@ rounded-near format f h = round-near (pos (fullScale format) *ℤ f .num) (pos (
 -- ---- the fraction
 
 -- the lower number is the distance of start and end, whichever is above
-pub lower-turned : (start end : ℤ) → ltZ end start ≡ true → start -ℤ end ≡ pos (lowerOf start end)
-lower-turned start end t =
+pub lower-mirrored : (start end : ℤ) → ltZ end start ≡ true → start -ℤ end ≡ pos (lowerOf start end)
+lower-mirrored start end t =
     eq-of (start -ℤ end) (pos (natAbs (end -ℤ start)))
     (omega (arith, ltZ-true end start t, sub-is start end, sub-is end start, excl (start -ℤ end), excl (end -ℤ start), abs-is (end -ℤ start)))
 
@@ -39,7 +39,7 @@ pub fraction-is : (start end r : ℤ) → fraction start end r .num *ℤ (end -�
 fraction-is start end r =
     by-test (ltZ end start) (start -ℤ r) (r -ℤ start) (λ (x : ℤ). x *ℤ (end -ℤ start) ≡ (r -ℤ start) *ℤ pos (lowerOf start end))
     (λ t. ring ((var start ⊖ var r) ⊗ (var end ⊖ var start)) ((var r ⊖ var start) ⊗ (var start ⊖ var end)) (omega arith)
-    ∙ ap (λ (x : ℤ). (r -ℤ start) *ℤ x) (lower-turned start end (is-true (ltZ end start) t)))
+    ∙ ap (λ (x : ℤ). (r -ℤ start) *ℤ x) (lower-mirrored start end (is-true (ltZ end start) t)))
     (λ t. ap (λ (x : ℤ). (r -ℤ start) *ℤ x) (lower-kept start end (is-false (ltZ end start) t)))
 
 pub lower-above : (start end : ℤ) → (start ≡ end → ⊥) → 0 < lowerOf start end
@@ -57,7 +57,7 @@ upper-at-start start end =
 upper-at-end : (start end : ℤ) → upperOf start end end ≡ pos (lowerOf start end)
 upper-at-end start end =
     by-test (ltZ end start) (start -ℤ end) (end -ℤ start) (λ (x : ℤ). x ≡ pos (lowerOf start end))
-    (λ t. lower-turned start end (is-true (ltZ end start) t)) (λ t. lower-kept start end (is-false (ltZ end start) t))
+    (λ t. lower-mirrored start end (is-true (ltZ end start) t)) (λ t. lower-kept start end (is-false (ltZ end start) t))
 
 -- the upper number of numbers within A is within 2 A
 pub upper-within : {A : ℕ} {start r : ℤ} (end : ℤ) → Within A start → Within A r → Within (A + A) (upperOf start end r)

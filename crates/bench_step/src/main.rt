@@ -34,7 +34,7 @@ fn collect(log: &[u8], events: &mut [u64]) -> usize
     let mut count: usize = 0;
     let mut i: usize = 0;
     while i + 4 <= log.len() {
-        let s = events::word(
+        let s = events::take(
             pending,
             events::word_at(log[i], log[i + 1], log[i + 2], log[i + 3]),
         );

@@ -14,7 +14,7 @@ use Rattle.integers.specs.Limit.{Z}
 use Rattle.parameters.specs.Slots.{action, withOffset}
 use Rattle.parameters.specs.Stores.{valid-offset, valid-preselection}
 use Rattle.parameters.specs.Valid.{Valid}
-use Rattle.reading.specs.Reading.{directedOf}
+use Rattle.reading.specs.Reading.{directedAt}
 use Rattle.reading.specs.ReadingLaws.{result-within}
 use Rattle.commands.specs.declared.state.State.{State}
 use Rattle.commands.specs.State.{freshOf, withTable}
@@ -24,14 +24,14 @@ use Rattle.commands.specs.Valid.{Good}
 -- ---- the cases
 
 -- a reset that is not refused has a position up to Z
-pub reset-fits : (seen : Bool) (error place : ℕ) → resetRefusal seen error place ≡ 0 → place ≤ Z
+pub reset-fits : (seen : Bool) (error directed : ℕ) → resetRefusal seen error directed ≡ 0 → directed ≤ Z
 unfolding resetRefusal
-reset-fits seen error place =
+reset-fits seen error directed =
     by-test (not seen || eqb error 3) 13 _ Q (λ _ e. absurd (omega arith))
-    (λ _. by-test (ltb Z place) 12 0 Q (λ _ e. absurd (omega arith)) (λ n _. ltb-false Z place (is-false (ltb Z place) n)))
+    (λ _. by-test (ltb Z directed) 12 0 Q (λ _ e. absurd (omega arith)) (λ n _. ltb-false Z directed (is-false (ltb Z directed) n)))
   where
     Q : ℕ → Type 0
-    Q n = n ≡ 0 → place ≤ Z
+    Q n = n ≡ 0 → directed ≤ Z
 
 both : (a b : Bool) → T (a && b) → T a × T b
 both true b t = (tt, t)
@@ -45,7 +45,7 @@ teach-below a t =
 -- a command leaves the state, or resets, clears, or teaches
 pub by-command : (a : ℕ) (s : State) (Q : State → Type 0) →
     Q s →
-    (T (eqb a 1) → directedOf (s .table) (s .live .telegram) ≤ Z → Q (resetOf s)) →
+    (T (eqb a 1) → directedAt (s .table) (s .live .telegram) ≤ Z → Q (resetOf s)) →
     Q (clearLocksOf s) →
     Q (clearExtremesOf s) →
     ((k : ℕ) → k < 4 → T (isTeach a) → T (eqb (refusalOf a s) 0) → Q (teachOf s k)) →
@@ -53,15 +53,15 @@ pub by-command : (a : ℕ) (s : State) (Q : State → Type 0) →
 unfolding commandOf carriedOut refusalOf
 by-command a s Q same reset locks extremes teach =
     by-test (eqb (refusalOf a s) 0) (acted (carriedOut a s) 0) (acted s (refusalOf a s)) (λ (x : Acted). Q (x .state))
-    (λ e. by-test (eqb a 1) (resetOf s) _ Q (λ t. reset t (place-fits e t))
+    (λ e. by-test (eqb a 1) (resetOf s) _ Q (λ t. reset t (position-fits e t))
     (λ _. by-test (eqb a 3) (clearLocksOf s) _ Q (λ _. locks)
     (λ _. by-test (eqb a 4) (clearExtremesOf s) _ Q (λ _. extremes)
     (λ _. by-test (isTeach a) (teachOf s (a - 5)) s Q (λ t. teach (a - 5) (teach-below a t) t e) (λ _. same)))))
     (λ _. same)
   where
-    place-fits : T (eqb (refusalOf a s) 0) → T (eqb a 1) → directedOf (s .table) (s .live .telegram) ≤ Z
-    place-fits e t =
-        reset-fits (s .live .seen) (errorOf s) (directedOf (s .table) (s .live .telegram))
+    position-fits : T (eqb (refusalOf a s) 0) → T (eqb a 1) → directedAt (s .table) (s .live .telegram) ≤ Z
+    position-fits e t =
+        reset-fits (s .live .seen) (errorOf s) (directedAt (s .table) (s .live .telegram))
         (rw (is-true (eqb a 1) t) at (eqb-true (refusalOf a s) 0 (is-true (eqb (refusalOf a s) 0) e)))
 
 -- an input acts or does not
@@ -87,7 +87,7 @@ pub good-command : (a : ℕ) (s : State) → Good s → Good (commandOf a s .sta
 unfolding resetOf clearLocksOf clearExtremesOf teachOf
 good-command a s g =
     by-command a s Good g
-    (λ _ h. good-reread (withTable s (withOffset (s .table) (pos (directedOf (s .table) (s .live .telegram))))) (valid-offset (g .table) (record { above = h; below = omega arith })))
+    (λ _ h. good-reread (withTable s (withOffset (s .table) (pos (directedAt (s .table) (s .live .telegram))))) (valid-offset (g .table) (record { above = h; below = omega arith })))
     (record { table = g .table; result = g .result })
     (record { table = g .table; result = g .result })
     (λ k h _ _. record { table = valid-preselection (g .table) (g .result) k h; result = g .result })
@@ -101,9 +101,9 @@ good-commands s l g = good-input l 2 (inputOf l 1 (inputOf l 0 (acted s 0))) (go
 
 -- ---- what an action that is not refused may assume
 
-pub reset-allowed : (a : ℕ) (s : State) → a ≡ 1 → refusalOf a s ≡ 0 → directedOf (s .table) (s .live .telegram) ≤ Z
+pub reset-allowed : (a : ℕ) (s : State) → a ≡ 1 → refusalOf a s ≡ 0 → directedAt (s .table) (s .live .telegram) ≤ Z
 unfolding refusalOf
-reset-allowed a s one e = reset-fits (s .live .seen) (errorOf s) (directedOf (s .table) (s .live .telegram)) (rw (eq-eqb a 1 one) at e)
+reset-allowed a s one e = reset-fits (s .live .seen) (errorOf s) (directedAt (s .table) (s .live .telegram)) (rw (eq-eqb a 1 one) at e)
 
 pub teach-from : (a : ℕ) → T (isTeach a) → 5 ≤ a
 teach-from a t = leb-true 5 a (is-true (leb 5 a) (both (leb 5 a) (leb a 8) t .0))

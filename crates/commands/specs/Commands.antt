@@ -10,7 +10,7 @@ use Rattle.integers.specs.Limit.{Z}
 use Rattle.measurement.specs.Measure.{errorNumber}
 use Rattle.parameters.specs.Slots.{action, config, withOffset, withPreselection}
 use Rattle.reading.specs.declared.Reading.{Reading}
-use Rattle.reading.specs.Reading.{directedOf, readingOf}
+use Rattle.reading.specs.Reading.{directedAt, readingOf}
 use Rattle.switching.specs.Switching.{allUnlocked}
 use Rattle.commands.specs.declared.state.Extremes.{Extremes}
 use Rattle.commands.specs.declared.state.Live.{Live}
@@ -28,8 +28,8 @@ errorOf s = errorIn (s .live .reading)
 -- ---- the result worked out again
 
 -- "Least and greatest cover error-free results"
-unfoldable pub notedOf : Extremes → Reading → Extremes
-notedOf x r =
+unfoldable pub widenedOf : Extremes → Reading → Extremes
+widenedOf x r =
     cond (eqb (errorIn r) 0)
     (cond (x .any)
     (record { any = true; least = cond (ltZ (r .result) (x .least)) (r .result) (x .least); greatest = cond (ltZ (x .greatest) (r .result)) (r .result) (x .greatest) })
@@ -41,7 +41,7 @@ abbrev pub readAgain : State → Reading
 readAgain s = readingOf (s .table) (s .live .telegram)
 
 unfoldable pub rereadOf : State → State
-rereadOf s = withReading s (readAgain s) (notedOf (s .live .extremes) (readAgain s))
+rereadOf s = withReading s (readAgain s) (widenedOf (s .live .extremes) (readAgain s))
 
 -- ---- the actions
 
@@ -59,11 +59,11 @@ leftBy t o = acted (stateOf t (o .live)) (o .note)
 
 -- 13: reset with no telegram yet or under error 3; then 12: p after direction above Z
 unfoldable pub resetRefusal : Bool → ℕ → ℕ → ℕ
-resetRefusal seen error place = cond (not seen || eqb error 3) 13 (cond (ltb Z place) 12 0)
+resetRefusal seen error directed = cond (not seen || eqb error 3) 13 (cond (ltb Z directed) 12 0)
 
 -- 1, reset: O becomes p after direction, and the result is worked out again at once
 unfoldable pub resetOf : State → State
-resetOf s = rereadOf (withTable s (withOffset (s .table) (pos (directedOf (s .table) (s .live .telegram)))))
+resetOf s = rereadOf (withTable s (withOffset (s .table) (pos (directedAt (s .table) (s .live .telegram)))))
 
 -- 3, clear locks
 abbrev pub locksCleared : Live → Live
@@ -97,7 +97,7 @@ teachOf s k = withTable s (withPreselection (s .table) k (s .live .reading .resu
 -- the refusal of an action, 0 where it is carried out
 unfoldable pub refusalOf : ℕ → State → ℕ
 refusalOf a s =
-    cond (eqb a 1) (resetRefusal (s .live .seen) (errorOf s) (directedOf (s .table) (s .live .telegram)))
+    cond (eqb a 1) (resetRefusal (s .live .seen) (errorOf s) (directedAt (s .table) (s .live .telegram)))
     (cond (isTeach a) (teachRefusal (s .live .seen) (errorOf s)) 0)
 
 -- what an action that is not refused leaves; 0 is none, and 2, freeze, runs nothing

@@ -15,9 +15,9 @@ ghost use lib.Signed.{ltZ};
 ghost use Rattle.integers.specs.Limit.{Z};
 ghost use Rattle.parameters.specs.Slots.{withPreselection};
 ghost use Rattle.parameters.specs.Valid.{Valid};
-ghost use Rattle.reading.specs.Reading.{directedOf};
+ghost use Rattle.reading.specs.Reading.{directedAt};
 ghost use Rattle.commands.specs.State.{stateOf};
-ghost use Rattle.commands.specs.Commands.{errorIn, notedOf, rereadOf, leftBy, resetRefusal, resetOf, locksCleared, extremesAt, extremesCleared, isTeach, teachRefusal, refusalOf, carriedOut, commandOf, highAt, onRise, actsOn, edgeIn, firstNote, inputActs, commandsOf};
+ghost use Rattle.commands.specs.Commands.{errorIn, widenedOf, rereadOf, leftBy, resetRefusal, resetOf, locksCleared, extremesAt, extremesCleared, isTeach, teachRefusal, refusalOf, carriedOut, commandOf, highAt, onRise, actsOn, edgeIn, firstNote, inputActs, commandsOf};
 ghost use Rattle.commands.specs.Valid.{Good};
 
 // The lower of two results.
@@ -49,8 +49,8 @@ fn error_in(r: Reading) -> u32
 }
 
 // Least and greatest with one more reading.
-pub fn noted(x: Extremes, r: Reading) -> Extremes
-    ensures { λ y. ⌜ y ≡ notedOf x r ⌝ }
+pub fn widened(x: Extremes, r: Reading) -> Extremes
+    ensures { λ y. ⌜ y ≡ widenedOf x r ⌝ }
 {
     if error_in(r) != 0 {
         return x;
@@ -75,13 +75,13 @@ fn reread(t: &[i32; 104], l: Live) -> Live
     ensures { λ r. ⌜ stateOf (now (t .entry)) r ≡ rereadOf (stateOf (now (t .entry)) l) ⌝ }
 {
     let r = reading::read(t, l.telegram);
-    let x = noted(l.extremes, r);
+    let x = widened(l.extremes, r);
     state::with_reading(l, r, x)
 }
 
 // Why a reset is refused: 13 before 12, or 0.
-fn reset_refusal(seen: bool, error: u32, place: u32) -> u8
-    ensures { λ r. ⌜ r ≡ resetRefusal seen error place ⌝ }
+fn reset_refusal(seen: bool, error: u32, directed: u32) -> u8
+    ensures { λ r. ⌜ r ≡ resetRefusal seen error directed ⌝ }
 {
     if !seen {
         return 13;
@@ -89,7 +89,7 @@ fn reset_refusal(seen: bool, error: u32, place: u32) -> u8
     if error == 3 {
         return 13;
     }
-    if 99999999 < place {
+    if 99999999 < directed {
         return 12;
     }
     0
@@ -110,11 +110,11 @@ fn teach_refusal(seen: bool, error: u32) -> u8
 
 // Reset: the offset becomes the position after direction.
 fn reset(t: &mut [i32; 104], l: Live) -> Live
-    requires { ⌜ Valid (now t) × (directedOf (now t) (l .telegram) ≤ Z) ⌝ }
+    requires { ⌜ Valid (now t) × (directedAt (now t) (l .telegram) ≤ Z) ⌝ }
     ensures { λ r. ⌜ stateOf (now (t .exit)) r ≡ resetOf (stateOf (now (t .entry)) l) ⌝ }
 {
-    let place = reading::directed(t, l.telegram);
-    t[slots::OFFSET] = place as i32;
+    let directed = reading::directed(t, l.telegram);
+    t[slots::OFFSET] = directed as i32;
     reread(t, l)
 }
 

@@ -7,7 +7,7 @@ use lib.ListN.{length, getD, drop, length-drop}
 use lib.Seq.{drop-cons}
 use Rattle.events.specs.Words.{wordAt}
 use Rattle.events.specs.declared.Pending.{Pending}
-use Rattle.events.specs.Log.{freshPending, wordOf, endOf, before, logFrom}
+use Rattle.events.specs.Log.{freshPending, takenOf, endOf, before, logFrom}
 use Rattle.events.specs.LogLaws.{ends, log-word, log-end, log-start}
 use Rattle.events.specs.Bytes.{wordsIn, leftOver, logOfBytes}
 
@@ -48,7 +48,7 @@ bytes-start bytes = log-start (wordsIn bytes) (leftOver bytes)
 
 module _ (p : Pending) (bytes : List ℕ) (i left : ℕ) where
   pub bytes-next : i + 4 ≤ length bytes
-      → logFrom p (wordsIn (drop i bytes)) left ≡ before (wordOf p (wordFrom bytes i) .taken) (logFrom (wordOf p (wordFrom bytes i) .pending) (wordsIn (drop (i + 4) bytes)) left)
+      → logFrom p (wordsIn (drop i bytes)) left ≡ before (takenOf p (wordFrom bytes i) .taken) (logFrom (takenOf p (wordFrom bytes i) .pending) (wordsIn (drop (i + 4) bytes)) left)
   bytes-next h = ap (λ (ws : List ℕ). logFrom p ws left) (words-next bytes i h) ∙ log-word p (wordFrom bytes i) (wordsIn (drop (i + 4) bytes)) left
 
   pub bytes-done : length bytes < i + 4 → logFrom p (wordsIn (drop i bytes)) left ≡ ends (endOf p left)

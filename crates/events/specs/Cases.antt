@@ -5,7 +5,7 @@ use Prim.Native.Nat.{ℕ}
 use Rattle.events.specs.declared.Event.{Event}
 use Rattle.events.specs.declared.Event.the-variants.{Telegram, Levels, Tick}
 use Rattle.events.specs.Words.{reservedSet}
-use Rattle.events.specs.Log.{Log, acceptedOf, wordOf, endOf, logFrom, logOf}
+use Rattle.events.specs.Log.{Log, acceptedOf, takenOf, endOf, logFrom, logOf}
 use Rattle.events.specs.Bytes.{wordsIn, logOfBytes}
 
 abbrev pub gives : List Event → ℕ → Log
@@ -35,5 +35,5 @@ Cases =
     × (logOfBytes (0x01 ∷ 0x02 ∷ 0x00 ∷ 0x00 ∷ 0x07 ∷ 0x00 ∷ 0x00 ∷ 0x40 ∷ 0x00 ∷ []) ≡ gives (Tick 513 ∷ Levels 7 ∷ []) 16)
 
 pub cases : Cases
-unfolding logOf logFrom wordOf acceptedOf endOf reservedSet logOfBytes wordsIn
+unfolding logOf logFrom takenOf acceptedOf endOf reservedSet logOfBytes wordsIn
 cases = (refl, refl, refl, refl, refl, refl, refl, refl, refl, refl, refl, refl, refl)

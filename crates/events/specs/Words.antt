@@ -34,8 +34,8 @@ levelsOf w = bitsOf 2 0 w
 abbrev pub halfOf : ℕ → ℕ
 halfOf w = bitsOf 15 0 w
 
-abbrev pub telegramOf : ℕ → ℕ → ℕ
-telegramOf upper lower = upper * 2 ^ 16 + lower
+abbrev pub joined : ℕ → ℕ → ℕ
+joined upper lower = upper * 2 ^ 16 + lower
 
 -- "All others are reserved"
 abbrev pub reservedOf : ℕ → ℕ

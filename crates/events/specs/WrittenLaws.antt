@@ -9,9 +9,9 @@ use lib.Dec.{eqb}
 use Rattle.events.specs.declared.Event.{Event}
 use Rattle.events.specs.declared.Event.the-variants.{Telegram, Levels, Tick}
 use Rattle.events.specs.declared.Pending.{Pending}
-use Rattle.events.specs.declared.Step.{Step}
-use Rattle.events.specs.Words.{bitsOf, kindOf, msOf, levelsOf, halfOf, telegramOf, reservedOf, reservedSet}
-use Rattle.events.specs.Log.{freshPending, happened, kept, refused, outOfOrder, acceptedOf, wordOf, endOf, before, logFrom, logOf}
+use Rattle.events.specs.declared.AfterWord.{AfterWord}
+use Rattle.events.specs.Words.{bitsOf, kindOf, msOf, levelsOf, halfOf, joined, reservedOf, reservedSet}
+use Rattle.events.specs.Log.{freshPending, happened, kept, refused, outOfOrder, acceptedOf, takenOf, endOf, before, logFrom, logOf}
 use Rattle.events.specs.LogLaws.{behind}
 use Rattle.events.specs.WordLaws.{tick-word, levels-word, upper-word, lower-word}
 use Rattle.events.specs.Written.{wordWith, wordsOf, written, Carried, AllCarried, AllWords}
@@ -33,11 +33,11 @@ pub content-levels : (k x : ℕ) → x < 2 ^ 3 → bitsOf 2 0 (wordWith k x) ≡
 content-levels k x l = omega arith
 
 -- ---- read back: the words of one event, and then the rest
-step-on : (p : Pending) (w : ℕ) (ws : List ℕ) (left : ℕ) (s : Step) → wordOf p w ≡ s → logFrom p (w ∷ ws) left ≡ before (s .taken) (logFrom (s .pending) ws left)
+step-on : (p : Pending) (w : ℕ) (ws : List ℕ) (left : ℕ) (s : AfterWord) → takenOf p w ≡ s → logFrom p (w ∷ ws) left ≡ before (s .taken) (logFrom (s .pending) ws left)
 unfolding logFrom
-step-on p w ws left s e = ap (λ (x : Step). before (x .taken) (logFrom (x .pending) ws left)) e
+step-on p w ws left s e = ap (λ (x : AfterWord). before (x .taken) (logFrom (x .pending) ws left)) e
 
-halves : (t : ℕ) → telegramOf (t / 2 ^ 16) (t % 2 ^ 16) ≡ t
+halves : (t : ℕ) → joined (t / 2 ^ 16) (t % 2 ^ 16) ≡ t
 halves t = omega arith
 
 pub read-one : (e : Event) (ws : List ℕ) (left : ℕ) → Carried e → logFrom freshPending (wordsOf e ++ ws) left ≡ behind (e ∷ []) (logFrom freshPending ws left)
@@ -56,7 +56,7 @@ read-one (Telegram t) ws left h =
     (upper-word freshPending (wordWith 2 u) refl (kind-with 2 u (omega arith) us) (reserved-with 2 u us) ∙ ap kept (content-with 2 u us))
     ∙ step-on (kept u .pending) (wordWith 3 d) ws left (happened (Telegram t))
     (lower-word (kept u .pending) (wordWith 3 d) refl (kind-with 3 d (omega arith) ds) (reserved-with 3 d ds)
-    ∙ ap (λ (x : ℕ). happened (Telegram (telegramOf u x))) (content-with 3 d ds) ∙ ap (λ (x : ℕ). happened (Telegram x)) (halves t))
+    ∙ ap (λ (x : ℕ). happened (Telegram (joined u x))) (content-with 3 d ds) ∙ ap (λ (x : ℕ). happened (Telegram x)) (halves t))
 
 read-from : (es : List Event) → AllCarried es → logFrom freshPending (written es) 0 ≡ record { events = es; number = 0 }
 unfolding written logFrom endOf
@@ -69,12 +69,12 @@ unfolding logOf
 read-back es h = read-from es h
 
 -- ---- written back: what a word of 32 bits is, by what it gives
-data Shape : Pending → ℕ → Step → Type 0 where
+data Shape : Pending → ℕ → AfterWord → Type 0 where
   was-refused : {p : Pending} {w : ℕ} (n : ℕ) → 0 < n → Shape p w (refused n)
   was-tick : {p : Pending} {w : ℕ} → p .waiting ≡ false → w ≡ wordWith 0 (msOf w) → Shape p w (happened (Tick (msOf w)))
   was-levels : {p : Pending} {w : ℕ} → p .waiting ≡ false → w ≡ wordWith 1 (levelsOf w) → Shape p w (happened (Levels (levelsOf w)))
   was-upper : {p : Pending} {w : ℕ} → p .waiting ≡ false → w ≡ wordWith 2 (halfOf w) → Shape p w (kept (halfOf w))
-  was-lower : {p : Pending} {w : ℕ} → p .waiting ≡ true → w ≡ wordWith 3 (halfOf w) → Shape p w (happened (Telegram (telegramOf (p .upper) (halfOf w))))
+  was-lower : {p : Pending} {w : ℕ} → p .waiting ≡ true → w ≡ wordWith 3 (halfOf w) → Shape p w (happened (Telegram (joined (p .upper) (halfOf w))))
 
 reserved-zero : (w : ℕ) → reservedSet w ≡ false → reservedOf w ≡ 0
 unfolding reservedSet
@@ -106,7 +106,7 @@ module _ (p : Pending) (w : ℕ) (small : w < 2 ^ 32) where
       (cond r (refused 14)
       (cond o (refused 15)
       (cond k0 (happened (Tick (msOf w)))
-      (cond k1 (happened (Levels (levelsOf w))) (cond k2 (kept (halfOf w)) (happened (Telegram (telegramOf (p .upper) (halfOf w)))))))))
+      (cond k1 (happened (Levels (levelsOf w))) (cond k2 (kept (halfOf w)) (happened (Telegram (joined (p .upper) (halfOf w)))))))))
   shape-by true o k0 k1 k2 r q a b c = was-refused 14 (omega arith)
   shape-by false true k0 k1 k2 r q a b c = was-refused 15 (omega arith)
   shape-by false false true k1 k2 r q a b c =
@@ -122,22 +122,22 @@ module _ (p : Pending) (w : ℕ) (small : w < 2 ^ 32) where
       let k : kindOf w ≡ 3 = omega (arith, eqb-false (kindOf w) 0 a, eqb-false (kindOf w) 1 b, eqb-false (kindOf w) 2 c) in
       was-lower (was-waiting (p .waiting) 3 (order-at 3 k q) refl) (word-of-kind 3 k (reserved-at 3 k r))
 
-  shape : Shape p w (wordOf p w)
-  unfolding wordOf acceptedOf
+  shape : Shape p w (takenOf p w)
+  unfolding takenOf acceptedOf
   shape = shape-by _ _ _ _ _ refl refl refl refl refl
 
 -- the upper half that waits, as a word
 abbrev pub wordWaiting : Pending → List ℕ
 wordWaiting p = cond (p .waiting) (wordWith 2 (p .upper) ∷ []) []
 
-upper-back : (u w : ℕ) → telegramOf u (halfOf w) / 2 ^ 16 ≡ u
+upper-back : (u w : ℕ) → joined u (halfOf w) / 2 ^ 16 ≡ u
 upper-back u w = omega arith
 
-lower-back : (u w : ℕ) → telegramOf u (halfOf w) % 2 ^ 16 ≡ halfOf w
+lower-back : (u w : ℕ) → joined u (halfOf w) % 2 ^ 16 ≡ halfOf w
 lower-back u w = omega arith
 
 module _ (ws : List ℕ) (left : ℕ) (rest : (q : Pending) → logFrom q ws left .number ≡ 0 → written (logFrom q ws left .events) ≡ wordWaiting q ++ ws) where
-  step-back : (p : Pending) (w : ℕ) (s : Step) → Shape p w s → before (s .taken) (logFrom (s .pending) ws left) .number ≡ 0
+  step-back : (p : Pending) (w : ℕ) (s : AfterWord) → Shape p w s → before (s .taken) (logFrom (s .pending) ws left) .number ≡ 0
       → written (before (s .taken) (logFrom (s .pending) ws left) .events) ≡ wordWaiting p ++ (w ∷ ws)
   unfolding written
   step-back p w s (was-refused n h) z = absurd (omega arith)
@@ -161,7 +161,7 @@ end-back p left h = by (p .waiting) (eqb left 0) h
 pub written-from : (p : Pending) (ws : List ℕ) (left : ℕ) → AllWords ws → logFrom p ws left .number ≡ 0 → written (logFrom p ws left .events) ≡ wordWaiting p ++ ws
 unfolding written logFrom
 written-from p [] left h z = end-back p left z
-written-from p (w ∷ ws) left h z = step-back ws left (λ q. written-from q ws left (h .1)) p w (wordOf p w) (shape p w (h .0)) z
+written-from p (w ∷ ws) left h z = step-back ws left (λ q. written-from q ws left (h .1)) p w (takenOf p w) (shape p w (h .0)) z
 
 -- A LOG THAT ENDS WITH 0 is the words of its events, and of nothing else
 pub written-back : (ws : List ℕ) (left : ℕ) → AllWords ws → logOf ws left .number ≡ 0 → written (logOf ws left .events) ≡ ws

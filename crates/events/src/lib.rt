@@ -4,7 +4,7 @@ mod parts;
 
 ghost use mathlib.Core.Path.{_≡_};
 ghost use Rattle.events.specs.Words.{wordAt};
-ghost use Rattle.events.specs.Log.{freshPending, kept, refused, happened, acceptedOf, outOfOrder, wordOf, endOf};
+ghost use Rattle.events.specs.Log.{freshPending, kept, refused, happened, acceptedOf, outOfOrder, takenOf, endOf};
 
 // What the engine works on.
 pub enum Event {
@@ -35,7 +35,7 @@ pub enum Taken {
 }
 
 // The answer to one word.
-pub struct Step {
+pub struct AfterWord {
     // What is kept for the next word.
     pub pending: Pending,
     // What the word gives.
@@ -60,30 +60,30 @@ pub fn word_at(b0: u8, b1: u8, b2: u8, b3: u8) -> u32
 }
 
 // A word that is refused.
-fn refuse(number: u8) -> Step
+fn refuse(number: u8) -> AfterWord
     ensures { λ r. ⌜ r ≡ refused number ⌝ }
 {
-    Step {
+    AfterWord {
         pending: fresh(),
         taken: Taken::Refused(number),
     }
 }
 
 // A word that gives an event.
-fn give(event: Event) -> Step
+fn give(event: Event) -> AfterWord
     ensures { λ r. ⌜ r ≡ happened event ⌝ }
 {
-    Step {
+    AfterWord {
         pending: fresh(),
         taken: Taken::Happened(event),
     }
 }
 
 // A word that is the upper half of a telegram.
-fn keep(upper: u16) -> Step
+fn keep(upper: u16) -> AfterWord
     ensures { λ r. ⌜ r ≡ kept upper ⌝ }
 {
-    Step {
+    AfterWord {
         pending: Pending {
             waiting: true,
             upper,
@@ -103,7 +103,7 @@ fn out_of_order(waiting: bool, w: u32) -> bool
 }
 
 // A word in order, after the upper half `upper` where it is a lower half.
-fn accept(upper: u16, w: u32) -> Step
+fn accept(upper: u16, w: u32) -> AfterWord
     ensures { λ r. ⌜ r ≡ acceptedOf upper w ⌝ }
 {
     let kind = parts::kind(w);
@@ -120,8 +120,8 @@ fn accept(upper: u16, w: u32) -> Step
 }
 
 // One word of the log.
-pub fn word(p: Pending, w: u32) -> Step
-    ensures { λ r. ⌜ r ≡ wordOf p w ⌝ }
+pub fn take(p: Pending, w: u32) -> AfterWord
+    ensures { λ r. ⌜ r ≡ takenOf p w ⌝ }
 {
     if parts::reserved_set(w) {
         return refuse(14);

@@ -1,7 +1,7 @@
 // The parts of a log word. Bits are numbered 31 to 0. Uses nothing.
 ghost use mathlib.Core.Path.{_≡_};
 ghost use Prim.Native.Nat.{_≤_};
-ghost use Rattle.events.specs.Words.{bitsOf, kindOf, reservedSet, msOf, levelsOf, halfOf, telegramOf};
+ghost use Rattle.events.specs.Words.{bitsOf, kindOf, reservedSet, msOf, levelsOf, halfOf, joined};
 
 // Bits high..low of a word.
 fn bits(w: u32, high: u32, low: u32) -> u32
@@ -52,7 +52,7 @@ pub fn half(w: u32) -> u16
 
 // The telegram of its halves.
 pub fn telegram(upper: u16, lower: u16) -> u32
-    ensures { λ r. ⌜ r ≡ telegramOf upper lower ⌝ }
+    ensures { λ r. ⌜ r ≡ joined upper lower ⌝ }
 {
     (upper as u32) * 0x1_0000 + (lower as u32)
 }

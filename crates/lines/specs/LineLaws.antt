@@ -17,7 +17,7 @@ use Rattle.events.specs.declared.Event.{Event}
 use Rattle.measurement.specs.Measure.{errorNumber}
 use Rattle.panel.specs.declared.Answer.{Answer}
 use Rattle.text.specs.Marks.{space}
-use Rattle.lines.specs.Lines.{analogText, codeIn, headerLine, eventLine, counted, loadLine, endLine}
+use Rattle.lines.specs.Lines.{analogText, codeIn, headerLine, eventLine, nextCount, loadLine, endLine}
 use Rattle.lines.specs.Fields.{valueFields}
 
 -- the most bytes that a line has
@@ -74,9 +74,9 @@ unfolding endLine
 end-line-at-most refusal = simp length-append (omega (arith, text-at-most-19 (pos refusal)))
 
 -- a count that can be printed stays one
-pub counted-range : (n : ℕ) → n ≤ largest → counted n ≤ largest
-unfolding counted
-counted-range n h = by (ltb n largest) refl
+pub nextCount-range : (n : ℕ) → n ≤ largest → nextCount n ≤ largest
+unfolding nextCount
+nextCount-range n h = by (ltb n largest) refl
   where
     by : (b : Bool) → ltb n largest ≡ b → cond b (n + 1) largest ≤ largest
     by true e = omega (arith, ltb-true n largest e)

@@ -105,8 +105,8 @@ eventLine count e a =
 
 -- "Events are counted from 1, refused ones too": the count after one more event. It stays at the largest number that is printed,
 -- 10 ^ 18 − 1, which no run reaches
-unfoldable pub counted : ℕ → ℕ
-counted n = cond (ltb n largest) (n + 1) largest
+unfoldable pub nextCount : ℕ → ℕ
+nextCount n = cond (ltb n largest) (n + 1) largest
 
 -- ---- the lines of a refused table and of the end
 

@@ -12,7 +12,7 @@ ghost use Rattle.decimal.specs.Decimal.{largest};
 ghost use Rattle.text.specs.Marks.{space};
 ghost use Rattle.text.specs.Put.{Put};
 ghost use Rattle.panel.specs.Step.{answerBy};
-ghost use Rattle.lines.specs.Lines.{kindLetter, levelDigit, outsText, analogText, counted, headerLine, eventLine, loadLine, endLine};
+ghost use Rattle.lines.specs.Lines.{kindLetter, levelDigit, outsText, analogText, nextCount, headerLine, eventLine, loadLine, endLine};
 ghost use Rattle.lines.specs.LineLaws.{longest};
 ghost use Rattle.lines.specs.Fields.{valueFields, driveFields, refusalFields};
 
@@ -101,7 +101,7 @@ fn put_drives(out: &mut [u8], at: usize, t: &[i32; 104], o: Outcome) -> usize
 
 // The count after one more event; it stays at the largest number that is printed.
 pub fn next_count(n: u64) -> u64
-    ensures { λ r. ⌜ r ≡ counted n ⌝ }
+    ensures { λ r. ⌜ r ≡ nextCount n ⌝ }
 {
     if n < 999_999_999_999_999_999 {
         return n + 1;

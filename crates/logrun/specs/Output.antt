@@ -7,7 +7,7 @@ use lib.Dec.{eqb}
 use Rattle.events.specs.declared.Event.{Event}
 use Rattle.events.specs.Log.{Log}
 use Rattle.events.specs.Bytes.{logOfBytes}
-use Rattle.lines.specs.Lines.{headerLine, eventLine, counted, loadLine, endLine}
+use Rattle.lines.specs.Lines.{headerLine, eventLine, nextCount, loadLine, endLine}
 use Rattle.panel.specs.declared.Loaded.{Loaded}
 use Rattle.commands.specs.declared.state.State.{State}
 use Rattle.panel.specs.Load.{loadedOf}
@@ -17,7 +17,7 @@ use Rattle.logrun.specs.Input.{tableOf, logBytes}
 -- "each gets the state the last returned": the lines of events from a state on, behind so many events
 unfoldable pub linesOf : ℕ → State → List Event → List ℕ
 linesOf count s [] = []
-linesOf count s (e ∷ es) = eventLine (counted count) e (stepOf s e) ++ linesOf (counted count) (stepOf s e .state) es
+linesOf count s (e ∷ es) = eventLine (nextCount count) e (stepOf s e) ++ linesOf (nextCount count) (stepOf s e .state) es
 
 -- a loaded table: the header, the lines of the log's events, and the end with the log's number
 unfoldable pub runText : State → Log → List ℕ

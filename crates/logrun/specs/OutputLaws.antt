@@ -13,10 +13,10 @@ use Rattle.events.specs.declared.Pending.{Pending}
 use Rattle.events.specs.declared.Taken.{Taken}
 use Rattle.events.specs.declared.Taken.the-variants.{Happened, Nothing, Refused}
 use Rattle.events.specs.Bytes.{wordsIn, leftOver, logOfBytes}
-use Rattle.events.specs.Log.{wordOf, endOf, Log, before, logFrom}
+use Rattle.events.specs.Log.{takenOf, endOf, Log, before, logFrom}
 use Rattle.events.specs.LogLaws.{log-word, log-end, log-start}
 use Rattle.events.specs.WordLaws.{Reason, word-reason}
-use Rattle.lines.specs.Lines.{headerLine, eventLine, counted, endLine}
+use Rattle.lines.specs.Lines.{headerLine, eventLine, nextCount, endLine}
 use Rattle.panel.specs.declared.Loaded.{Loaded}
 use Rattle.commands.specs.declared.state.State.{State}
 use Rattle.panel.specs.Load.{loadedOf}
@@ -31,7 +31,7 @@ use Rattle.logrun.specs.Pieces.{AllWhole, joined, piecesFed, piecesText}
 use Rattle.logrun.specs.PieceLaws.{all-fed, all-text, all-left}
 
 -- a word's refusal is not 0
-refused-some : (p : Pending) (w n : ℕ) → wordOf p w .taken ≡ Refused n → eqb n 0 ≡ false
+refused-some : (p : Pending) (w n : ℕ) → takenOf p w .taken ≡ Refused n → eqb n 0 ≡ false
 refused-some p w n e = ne-eqb n 0 (λ z. by z (word-reason p w n e))
   where
     by : n ≡ 0 → Reason p w n → ⊥
@@ -54,11 +54,11 @@ ended-text p ws left e = rw (words-text-ended p ws e, words-fed-ended p ws e, e)
 -- what a word gives takes the run further, where the words behind it do
 run-taken : (p : Progress) (w : ℕ) (ws : List ℕ) (left : ℕ) (q : Pending) (t : Taken)
     → ((r : Progress) → r .refusal ≡ 0 → restText r ws left ≡ logText (r .count) (r .state) (logFrom (r .pending) ws left))
-    → wordOf (p .pending) w .taken ≡ t
+    → takenOf (p .pending) w .taken ≡ t
     → textTaken p t ++ restText (afterTaken p q t) ws left ≡ logText (p .count) (p .state) (before t (logFrom q ws left))
 unfolding textTaken afterTaken linesOf
 run-taken p w ws left q (Happened e) behind t =
-    ap (λ (x : List ℕ). eventLine (counted (p .count)) e (stepOf (p .state) e) ++ x) (behind (afterTaken p q (Happened e)) refl) ∙ rw append-assoc
+    ap (λ (x : List ℕ). eventLine (nextCount (p .count)) e (stepOf (p .state) e) ++ x) (behind (afterTaken p q (Happened e)) refl) ∙ rw append-assoc
 run-taken p w ws left q Nothing behind t = behind (afterTaken p q Nothing) refl
 run-taken p w ws left q (Refused n) behind t = ended-text (afterTaken p q (Refused n)) ws left (refused-some (p .pending) w n t)
 
@@ -77,7 +77,7 @@ unfolding linesOf
 run-words p [] left h = rest-none p left h ∙ rw (log-end (p .pending) left)
 run-words p (w ∷ ws) left h =
     let e = eq-eqb (p .refusal) 0 h in
-    let s = wordOf (p .pending) w in
+    let s = takenOf (p .pending) w in
     rest-next p w ws left
     ∙ rw (text-running p w e, fed-running p w e, log-word (p .pending) w ws left)
     (run-taken p w ws left (s .pending) (s .taken) (λ r. run-words r ws left) refl)

@@ -12,8 +12,8 @@ use Rattle.decimal.specs.Decimal.{largest}
 use Rattle.events.specs.declared.Pending.{Pending}
 use Rattle.events.specs.declared.Taken.{Taken}
 use Rattle.events.specs.declared.Taken.the-variants.{Happened, Nothing, Refused}
-use Rattle.events.specs.Log.{freshPending, wordOf, endOf}
-use Rattle.lines.specs.Lines.{eventLine, counted}
+use Rattle.events.specs.Log.{freshPending, takenOf, endOf}
+use Rattle.lines.specs.Lines.{eventLine, nextCount}
 use Rattle.panel.specs.Step.{stepOf}
 use Rattle.logrun.specs.declared.Course.{Course}
 use Rattle.logrun.specs.declared.Progress.{Progress}
@@ -31,22 +31,22 @@ courseOf p = record { live = p .state .live; pending = p .pending; count = p .co
 
 -- what a word gives takes the run further: an event steps the panel, an upper half is kept, a refusal ends the run
 unfoldable pub afterTaken : Progress → Pending → Taken → Progress
-afterTaken p q (Happened e) = record { state = stepOf (p .state) e .state; pending = q; count = counted (p .count); refusal = 0 }
+afterTaken p q (Happened e) = record { state = stepOf (p .state) e .state; pending = q; count = nextCount (p .count); refusal = 0 }
 afterTaken p q Nothing = record { state = p .state; pending = q; count = p .count; refusal = 0 }
 afterTaken p q (Refused n) = record { state = p .state; pending = q; count = p .count; refusal = n }
 
 -- only an event has a line
 unfoldable pub textTaken : Progress → Taken → List ℕ
-textTaken p (Happened e) = eventLine (counted (p .count)) e (stepOf (p .state) e)
+textTaken p (Happened e) = eventLine (nextCount (p .count)) e (stepOf (p .state) e)
 textTaken p Nothing = []
 textTaken p (Refused n) = []
 
 -- one word: "A log refusal ends the run", so a word behind it does nothing
 unfoldable pub wordFed : Progress → ℕ → Progress
-wordFed p w = cond (eqb (p .refusal) 0) (afterTaken p (wordOf (p .pending) w .pending) (wordOf (p .pending) w .taken)) p
+wordFed p w = cond (eqb (p .refusal) 0) (afterTaken p (takenOf (p .pending) w .pending) (takenOf (p .pending) w .taken)) p
 
 unfoldable pub wordText : Progress → ℕ → List ℕ
-wordText p w = cond (eqb (p .refusal) 0) (textTaken p (wordOf (p .pending) w .taken)) []
+wordText p w = cond (eqb (p .refusal) 0) (textTaken p (takenOf (p .pending) w .taken)) []
 
 -- the words of a piece of the log, one after the other
 unfoldable pub wordsFed : Progress → List ℕ → Progress

@@ -7,14 +7,14 @@ use native.Mathlib.Omega.{arith}
 use lib.Dec.{eqb}
 use lib.ListN.{length, drop}
 use Rattle.events.specs.declared.Pending.{Pending}
-use Rattle.events.specs.declared.Step.{Step}
+use Rattle.events.specs.declared.AfterWord.{AfterWord}
 use Rattle.events.specs.declared.Taken.{Taken}
 use Rattle.events.specs.declared.Taken.the-variants.{Happened, Nothing, Refused}
 use Rattle.events.specs.Bytes.{wordsIn}
 use Rattle.events.specs.ByteLaws.{wordFrom, words-next, words-done}
-use Rattle.events.specs.Log.{wordOf}
-use Rattle.lines.specs.Lines.{counted}
-use Rattle.lines.specs.LineLaws.{longest, event-line-at-most, counted-range}
+use Rattle.events.specs.Log.{takenOf}
+use Rattle.lines.specs.Lines.{nextCount}
+use Rattle.lines.specs.LineLaws.{longest, event-line-at-most, nextCount-range}
 use Rattle.panel.specs.Step.{stepOf}
 use Rattle.panel.specs.ValidLaws.{good-step}
 use Rattle.logrun.specs.declared.Progress.{Progress}
@@ -23,7 +23,7 @@ use Rattle.logrun.specs.Progress.{afterTaken, textTaken, wordFed, wordTe
 -- ---- one word
 pub taken-ready : {p : Progress} → Ready p → (q : Pending) (t : Taken) → Ready (afterTaken p q t)
 unfolding afterTaken
-taken-ready {p} r q (Happened e) = record { state = good-step (r .state) e; count = counted-range (p .count) (r .count) }
+taken-ready {p} r q (Happened e) = record { state = good-step (r .state) e; count = nextCount-range (p .count) (r .count) }
 taken-ready r q Nothing = record { state = r .state; count = r .count }
 taken-ready r q (Refused n) = record { state = r .state; count = r .count }
 
@@ -31,13 +31,13 @@ pub word-ready : {p : Progress} → Ready p → (w : ℕ) → Ready (wordFed p w
 unfolding wordFed
 word-ready {p} r w = by (eqb (p .refusal) 0)
   where
-    by : (b : Bool) → Ready (cond b (afterTaken p (wordOf (p .pending) w .pending) (wordOf (p .pending) w .taken)) p)
-    by true = taken-ready r (wordOf (p .pending) w .pending) (wordOf (p .pending) w .taken)
+    by : (b : Bool) → Ready (cond b (afterTaken p (takenOf (p .pending) w .pending) (takenOf (p .pending) w .taken)) p)
+    by true = taken-ready r (takenOf (p .pending) w .pending) (takenOf (p .pending) w .taken)
     by false = r
 
 pub taken-at-most : (p : Progress) (t : Taken) → length (textTaken p t) ≤ longest
 unfolding textTaken
-taken-at-most p (Happened e) = event-line-at-most (counted (p .count)) e (stepOf (p .state) e)
+taken-at-most p (Happened e) = event-line-at-most (nextCount (p .count)) e (stepOf (p .state) e)
 taken-at-most p Nothing = omega arith
 taken-at-most p (Refused n) = omega arith
 
@@ -45,17 +45,17 @@ pub word-at-most : (p : Progress) (w : ℕ) → length (wordText p w) ≤ longes
 unfolding wordText
 word-at-most p w = by (eqb (p .refusal) 0)
   where
-    by : (b : Bool) → length (cond b (textTaken p (wordOf (p .pending) w .taken)) []) ≤ longest
-    by true = taken-at-most p (wordOf (p .pending) w .taken)
+    by : (b : Bool) → length (cond b (textTaken p (takenOf (p .pending) w .taken)) []) ≤ longest
+    by true = taken-at-most p (takenOf (p .pending) w .taken)
     by false = omega arith
 
 -- a word that is looked at, and a word behind a refusal
 module _ (p : Progress) (w : ℕ) where
-  pub fed-running : eqb (p .refusal) 0 ≡ true → wordFed p w ≡ afterTaken p (wordOf (p .pending) w .pending) (wordOf (p .pending) w .taken)
+  pub fed-running : eqb (p .refusal) 0 ≡ true → wordFed p w ≡ afterTaken p (takenOf (p .pending) w .pending) (takenOf (p .pending) w .taken)
   unfolding wordFed
   fed-running e = rw e
 
-  pub text-running : eqb (p .refusal) 0 ≡ true → wordText p w ≡ textTaken p (wordOf (p .pending) w .taken)
+  pub text-running : eqb (p .refusal) 0 ≡ true → wordText p w ≡ textTaken p (takenOf (p .pending) w .taken)
   unfolding wordText
   text-running e = rw e
 
@@ -68,7 +68,7 @@ module _ (p : Progress) (w : ℕ) where
   text-ended e = rw e
 
 -- .. by the answer s to it, which gives t
-module _ (p : Progress) (w : ℕ) (s : Step) (t : Taken) (running : eqb (p .refusal) 0 ≡ true) (is : s ≡ wordOf (p .pending) w) (gives : s .taken ≡ t) where
+module _ (p : Progress) (w : ℕ) (s : AfterWord) (t : Taken) (running : eqb (p .refusal) 0 ≡ true) (is : s ≡ takenOf (p .pending) w) (gives : s .taken ≡ t) where
   pub fed-by : wordFed p w ≡ afterTaken p (s .pending) t
   fed-by = fed-running p w running ∙ rw (← is, gives)
 

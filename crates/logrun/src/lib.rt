@@ -224,7 +224,7 @@ fn quiet(c: Course, pending: Pending, refusal: u8, at: usize) -> Ran
 }
 
 // One word of the log, its line put at `at`.
-fn word(t: &mut [i32; 104], c: Course, w: u32, out: &mut [u8], at: usize) -> Ran
+fn take(t: &mut [i32; 104], c: Course, w: u32, out: &mut [u8], at: usize) -> Ran
     requires { ⌜ Ready (progressOf (now t) c) × (at + longest ≤ length (now out)) ⌝ }
     ensures is { λ r. ⌜ progressOf (now (t .exit)) (r .course) ≡ wordFed (progressOf (now (t .entry)) c) w ⌝ }
     ensures text { λ r. ⌜ Put (now (out .entry)) at (wordText (progressOf (now (t .entry)) c) w) (r .end) (now (out .exit)) ⌝ }
@@ -234,7 +234,7 @@ fn word(t: &mut [i32; 104], c: Course, w: u32, out: &mut [u8], at: usize) -> Ran
         return Ran { course: c, end: at };
     }
     let pending = c.pending;
-    let s = events::word(pending, w);
+    let s = events::take(pending, w);
     let kept = s.pending;
     let taken = s.taken;
     match taken {
@@ -257,7 +257,7 @@ fn words(t: &mut [i32; 104], c: Course, bytes: &[u8], out: &mut [u8]) -> Ran
     let mut i: usize = 0;
     while i + 4 <= bytes.len() {
         let w = events::word_at(bytes[i], bytes[i + 1], bytes[i + 2], bytes[i + 3]);
-        let r = word(t, course, w, out, end);
+        let r = take(t, course, w, out, end);
         course = r.course;
         end = r.end;
         i += 4;

@@ -112,4 +112,4 @@ pub reading-accurate : (s : Scaling) (ws : List ℤ) (p : ℕ) (reported : Bool)
 unfolding measuredOf valueOf exactCurve exactOf
 reading-accurate s ws p reported h o e =
     subst (λ (r : ℤ). Accurate r (exactCurve s ws p) (steepest (s .linearization) (usedPoints s ws))) (sym (no-error reported (valueOf s ws p) e))
-    (accuracy (s .linearization) (usedPoints s ws) o (distanceOf p (s .offset) (s .round)) (s .factor) (s .divider) (s .additive) h)
+    (accuracy (s .linearization) (usedPoints s ws) o (distanceOf p (s .offset) (s .«round_loop»)) (s .factor) (s .divider) (s .additive) h)

@@ -16,8 +16,8 @@ use Rattle.integers.specs.Fraction.{Frac}
 use Rattle.measurement.specs.Curve.{Point, pointsFrom, curve, linearizedOf}
 
 -- step 1, direction: 1 replaces p by (M − p) modulo M, with M = 2 ^ width
-unfoldable pub turnedOf : ℕ → ℕ → ℕ → ℕ
-turnedOf reverse width p = cond (eqb reverse 1) ((2 ^ width - p) % 2 ^ width) p
+unfoldable pub directedOf : ℕ → ℕ → ℕ → ℕ
+directedOf reverse width p = cond (eqb reverse 1) ((2 ^ width - p) % 2 ^ width) p
 
 -- step 2, d: p − O, and with R above 0 that modulo R
 unfoldable pub distanceOf : ℕ → ℤ → ℕ → ℤ
@@ -51,10 +51,10 @@ judgedOf reported v =
 -- ---- the steps together, for a position after direction. `ws` holds the points, x then y
 
 unfoldable pub usedPoints : Scaling → List ℤ → List Point
-usedPoints s ws = pointsFrom ws 0 (s .points)
+usedPoints s ws = pointsFrom ws 0 (s .used)
 
 unfoldable pub valueOf : Scaling → List ℤ → ℕ → ℤ
-valueOf s ws p = linearizedOf (s .linearization) (usedPoints s ws) (scaledOf (distanceOf p (s .offset) (s .round)) (s .factor) (s .divider) (s .additive))
+valueOf s ws p = linearizedOf (s .linearization) (usedPoints s ws) (scaledOf (distanceOf p (s .offset) (s .«round_loop»)) (s .factor) (s .divider) (s .additive))
 
 -- the result and the error of a reading
 unfoldable pub measuredOf : Scaling → List ℤ → ℕ → Bool → Measured
@@ -62,7 +62,7 @@ measuredOf s ws p reported = judgedOf reported (valueOf s ws p)
 
 -- E, and L(E)
 unfoldable pub exactOf : Scaling → ℕ → Frac
-exactOf s p = exact (distanceOf p (s .offset) (s .round)) (s .factor) (s .divider) (s .additive)
+exactOf s p = exact (distanceOf p (s .offset) (s .«round_loop»)) (s .factor) (s .divider) (s .additive)
 
 unfoldable pub exactCurve : Scaling → List ℤ → ℕ → Frac
 exactCurve s ws p = curve (s .linearization) (usedPoints s ws) (exactOf s p)

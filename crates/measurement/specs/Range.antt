@@ -30,11 +30,11 @@ usable (suc m) a l = l
 -- the scaling of a table that loads, and its points
 pub record Sound (s : Scaling) (ws : List ℤ) : Type 0 where
   pub offset : Within Z (s .offset)
-  pub round : s .round ≤ Z
+  pub round-loop : s .«round_loop» ≤ Z
   pub factor : s .factor ≤ 9999999
   pub divider : 0 < s .divider
   pub additive : Within Z (s .additive)
-  pub curve : Linearizable (s .linearization) ws (s .points)
+  pub curve : Linearizable (s .linearization) ws (s .used)
 
 not-zero : (n : ℕ) → T (not (eqb n 0)) → 0 < n
 not-zero zero t = absurd t

@@ -6,7 +6,7 @@ ghost use lib.ListN.{length};
 ghost use Rattle.integers.specs.Int.{Within};
 ghost use Rattle.integers.specs.Fraction.{whole, nearest};
 ghost use Rattle.measurement.specs.Curve.{highestOf, lineValue, pointsFrom, fourQuadrants, oneQuadrant, linearizedOf};
-ghost use Rattle.measurement.specs.Measure.{errorNumber, turnedOf, distanceOf, scaledOf, judgedOf, measuredOf};
+ghost use Rattle.measurement.specs.Measure.{errorNumber, directedOf, distanceOf, scaledOf, judgedOf, measuredOf};
 ghost use Rattle.measurement.specs.Search.{OnLine, Usable};
 ghost use Rattle.measurement.specs.Range.{Linearizable, Sound};
 
@@ -45,7 +45,7 @@ pub struct Scaling {
     // O, subtracted from the position.
     pub offset: i32,
     // Round loop R, 0 off.
-    pub round: u32,
+    pub round_loop: u32,
     // Factor and divider, both in 0.00001.
     pub factor: u32,
     pub divider: u32,
@@ -54,7 +54,7 @@ pub struct Scaling {
     // 0 off, 1 one quadrant, 2 four quadrants.
     pub linearization: u32,
     // How many control points are in use.
-    pub points: usize,
+    pub used: usize,
 }
 
 // A control point found.
@@ -66,9 +66,9 @@ pub enum Found {
 }
 
 // Step 1, direction: 1 replaces p by (M - p) modulo M, with M = 2 ^ width.
-pub fn turned(reverse: u32, width: u32, p: u32) -> u32
+pub fn directed(reverse: u32, width: u32, p: u32) -> u32
     requires { ⌜ (width ≤ 32) × (p < 2 ^ width) ⌝ }
-    ensures { λ r. ⌜ r ≡ turnedOf reverse width p ⌝ }
+    ensures { λ r. ⌜ r ≡ directedOf reverse width p ⌝ }
 {
     if reverse == 1 {
         let m: u64 = 1 << width;
@@ -79,14 +79,14 @@ pub fn turned(reverse: u32, width: u32, p: u32) -> u32
 }
 
 // Step 2: the position less the offset, and with a round loop that modulo its length.
-pub fn distance(p: u32, offset: i32, round: u32) -> i64
-    ensures { λ r. ⌜ r ≡ distanceOf p offset round ⌝ }
+pub fn distance(p: u32, offset: i32, round_loop: u32) -> i64
+    ensures { λ r. ⌜ r ≡ distanceOf p offset «round_loop» ⌝ }
 {
     let d = p as i64 - offset as i64;
-    if round == 0 {
+    if round_loop == 0 {
         return d;
     }
-    integers::floor_rem(d, round as i64)
+    integers::floor_rem(d, round_loop as i64)
 }
 
 // Step 3: the distance times factor by divider, rounded, plus the additive value.
@@ -207,8 +207,8 @@ pub fn measure(s: Scaling, points: &[i32], p: u32, reported: bool) -> Measured
     requires { ⌜ Sound s (now points) ⌝ }
     ensures { λ r. ⌜ r ≡ measuredOf s (now (points .entry)) p reported ⌝ }
 {
-    let d = distance(p, s.offset, s.round);
+    let d = distance(p, s.offset, s.round_loop);
     let v = scaled(d, s.factor, s.divider, s.additive);
-    let w = linearized(s.linearization, points, s.points, v);
+    let w = linearized(s.linearization, points, s.used, v);
     judged(reported, w)
 }

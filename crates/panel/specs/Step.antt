@@ -72,21 +72,21 @@ settledOf s = displayedOf (switchedOf s)
 -- ---- the three events
 
 -- 11: a telegram bit above N is set
-unfoldable pub telegramOf : State → ℕ → Answer
-telegramOf s w = cond (acceptsOf (s .table) w) (answerOf (settledOf (rereadOf (withTelegram s w))) 0) (answerOf s 11)
+unfoldable pub onTelegram : State → ℕ → Answer
+onTelegram s w = cond (acceptsOf (s .table) w) (answerOf (settledOf (rereadOf (withTelegram s w))) 0) (answerOf s 11)
 
 -- 10: levels above 7
-unfoldable pub levelsOf : State → ℕ → Answer
-levelsOf s l = cond (leb l 7) (answerOf (settledOf (withLevels (commandsOf s l .state) l)) (commandsOf s l .note)) (answerOf s 10)
+unfoldable pub onLevels : State → ℕ → Answer
+onLevels s l = cond (leb l 7) (answerOf (settledOf (withLevels (commandsOf s l .state) l)) (commandsOf s l .note)) (answerOf s 10)
 
 -- Switching, "ticks use it up": pulses, and through them signals and outputs
-unfoldable pub tickOf : State → ℕ → Answer
-tickOf s ms = answerOf (withSwitches s (allTicked ms (s .live .switches))) 0
+unfoldable pub onTick : State → ℕ → Answer
+onTick s ms = answerOf (withSwitches s (allTicked ms (s .live .switches))) 0
 
 unfoldable pub stepOf : State → Event → Answer
-stepOf s (Telegram w) = telegramOf s w
-stepOf s (Levels l) = levelsOf s l
-stepOf s (Tick ms) = tickOf s ms
+stepOf s (Telegram w) = onTelegram s w
+stepOf s (Levels l) = onLevels s l
+stepOf s (Tick ms) = onTick s ms
 
 -- the answer that an event comes to, from what it does before switching and display
 abbrev pub answerAfter : List ℤ → Begun → Answer

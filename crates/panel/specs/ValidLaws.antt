@@ -15,7 +15,7 @@ use Rattle.reading.specs.Reading.{acceptsOf}
 use Rattle.settings.specs.Settings.{preselectionsOf}
 use Rattle.switching.specs.Switching.{allSwitched, allTicked}
 use Rattle.panel.specs.declared.Answer.{Answer}
-use Rattle.panel.specs.Step.{answerOf, switchesAfter, switchedOf, displayedOf, settledOf, telegramOf, levelsOf, tickOf, stepOf}
+use Rattle.panel.specs.Step.{answerOf, switchesAfter, switchedOf, displayedOf, settledOf, onTelegram, onLevels, onTick, stepOf}
 
 -- an event is refused, or is a telegram, levels or a tick
 pub by-step : (s : State) (e : Event) (Q : State → Type 0) →
@@ -24,7 +24,7 @@ pub by-step : (s : State) (e : Event) (Q : State → Type 0) →
     ((l : ℕ) → Q (settledOf (withLevels (commandsOf s l .state) l))) →
     ((ms : ℕ) → Q (withSwitches s (allTicked ms (s .live .switches)))) →
     Q (stepOf s e .state)
-unfolding stepOf telegramOf levelsOf tickOf answerOf
+unfolding stepOf onTelegram onLevels onTick answerOf
 by-step s (Telegram w) Q same telegram levels tick = by-test (acceptsOf (s .table) w) _ _ (λ (a : Answer). Q (a .state)) (λ _. telegram w) (λ _. same)
 by-step s (Levels l) Q same telegram levels tick = by-test (leb l 7) _ _ (λ (a : Answer). Q (a .state)) (λ _. levels l) (λ _. same)
 by-step s (Tick ms) Q same telegram levels tick = tick ms

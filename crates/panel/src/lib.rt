@@ -19,7 +19,7 @@ ghost use Rattle.commands.specs.Valid.{Good};
 ghost use Rattle.parameters.specs.Valid.{Valid};
 ghost use Rattle.switching.specs.Switching.{allTicked};
 ghost use Rattle.panel.specs.Load.{loadedOf};
-ghost use Rattle.panel.specs.Step.{answerOf, answerBy, outputsIn, switchesAfter, freezes, frozen, shownAfter, settledOf, telegramOf, levelsOf, stepOf, answerAfter};
+ghost use Rattle.panel.specs.Step.{answerOf, answerBy, outputsIn, switchesAfter, freezes, frozen, shownAfter, settledOf, onTelegram, onLevels, stepOf, answerAfter};
 
 // The answer to an event.
 pub struct Answer {
@@ -124,7 +124,7 @@ struct Begun {
 // A telegram: refused with 11, or read.
 fn on_telegram(t: &[i32; 104], l: Live, telegram: u32) -> Begun
     requires { ⌜ Valid (now t) ⌝ }
-    ensures { λ r. ⌜ answerAfter (now (t .entry)) r ≡ telegramOf (stateOf (now (t .entry)) l) telegram ⌝ }
+    ensures { λ r. ⌜ answerAfter (now (t .entry)) r ≡ onTelegram (stateOf (now (t .entry)) l) telegram ⌝ }
 {
     if !reading::accepts(t, telegram) {
         return Begun {
@@ -134,7 +134,7 @@ fn on_telegram(t: &[i32; 104], l: Live, telegram: u32) -> Begun
         };
     }
     let read = reading::read(t, telegram);
-    let extremes = commands::noted(l.extremes, read);
+    let extremes = commands::widened(l.extremes, read);
     let next = state::received(l, telegram, read, extremes);
     Begun {
         live: next,
@@ -146,7 +146,7 @@ fn on_telegram(t: &[i32; 104], l: Live, telegram: u32) -> Begun
 // Levels: refused with 10, or their commands run.
 fn on_levels(t: &mut [i32; 104], l: Live, levels: u8) -> Begun
     requires { ⌜ Good (stateOf (now t) l) ⌝ }
-    ensures { λ r. ⌜ answerAfter (now (t .exit)) r ≡ levelsOf (stateOf (now (t .entry)) l) levels ⌝ }
+    ensures { λ r. ⌜ answerAfter (now (t .exit)) r ≡ onLevels (stateOf (now (t .entry)) l) levels ⌝ }
 {
     if 7 < levels {
         return Begun {

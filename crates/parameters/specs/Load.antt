@@ -81,15 +81,15 @@ unfoldable pub condition : List ℤ → ℕ → Bool
 condition t n = getD (conditions t) (n - 1) false
 
 -- the number of the refusal, 0 where the table loads, and the slot it names, 0 except for 2
-unfoldable pub loadNumber : List ℤ → ℕ
-loadNumber t = firstOf 1 (conditions t)
+unfoldable pub loadRefusal : List ℤ → ℕ
+loadRefusal t = firstOf 1 (conditions t)
 
 unfoldable pub loadSlot : List ℤ → ℕ
-loadSlot t = cond (eqb (loadNumber t) 2) (lowestOut t) 0
+loadSlot t = cond (eqb (loadRefusal t) 2) (lowestOut t) 0
 
 -- what load answers: the table itself, or a refusal with the defaults as filler
 abbrev pub refusal : ℕ → ℕ → Loaded
 refusal n slot = record { number = n; slot = slot; table = defaultTable }
 
 unfoldable pub loadOf : List ℤ → Loaded
-loadOf t = cond (eqb (loadNumber t) 0) (record { number = 0; slot = 0; table = t }) (refusal (loadNumber t) (loadSlot t))
+loadOf t = cond (eqb (loadRefusal t) 0) (record { number = 0; slot = 0; table = t }) (refusal (loadRefusal t) (loadSlot t))

@@ -15,7 +15,7 @@ use Rattle.parameters.specs.Slots.{wordAt}
 use Rattle.integers.specs.Choice.{some}
 use Rattle.parameters.specs.Search.{firstOf}
 use Rattle.parameters.specs.SearchLaws.{first-least, first-own, first-only, first-none, none-first}
-use Rattle.parameters.specs.Load.{sameZ, wordsMissing, slotOut, fieldWrong, errorBitWrong, spanEmpty, notAbove, pointsNotRising, originMissing, frozenByEdge, freezeOnEdge, differ, differsFrom, polaritiesDiffer, conflicts, conditions, condition, loadNumber, loadSlot, refusal, loadOf}
+use Rattle.parameters.specs.Load.{sameZ, wordsMissing, slotOut, fieldWrong, errorBitWrong, spanEmpty, notAbove, pointsNotRising, originMissing, frozenByEdge, freezeOnEdge, differ, differsFrom, polaritiesDiffer, conflicts, conditions, condition, loadRefusal, loadSlot, refusal, loadOf}
 
 -- the test of two whole numbers tells whether they are equal
 pub same-yes : (a b : ℤ) → a ≡ b → sameZ a b ≡ true
@@ -39,15 +39,15 @@ same-true (negsuc a) (pos b) e = cc
 -- what load answers, stage by stage
 module _ (t : List ℤ) where
   pub load-length : (length t ≡ 104 → ⊥) → loadOf t ≡ refusal 1 0
-  unfolding loadOf loadSlot loadNumber conditions wordsMissing firstOf
+  unfolding loadOf loadSlot loadRefusal conditions wordsMissing firstOf
   load-length h = rw (ne-eqb (length t) 104 h)
 
   pub load-range : length t ≡ 104 → lowestOut t < 104 → loadOf t ≡ refusal 2 (lowestOut t)
-  unfolding loadOf loadSlot loadNumber conditions wordsMissing slotOut firstOf
+  unfolding loadOf loadSlot loadRefusal conditions wordsMissing slotOut firstOf
   load-range e h = rw (eq-eqb (length t) 104 e, lt-ltb (lowestOut t) 104 h)
 
-  passed : length t ≡ 104 → 104 ≤ lowestOut t → loadNumber t ≡ firstOf 3 (conflicts t)
-  unfolding loadNumber conditions wordsMissing slotOut firstOf
+  passed : length t ≡ 104 → 104 ≤ lowestOut t → loadRefusal t ≡ firstOf 3 (conflicts t)
+  unfolding loadRefusal conditions wordsMissing slotOut firstOf
   passed e h = rw (eq-eqb (length t) 104 e, le-ltb (lowestOut t) 104 h)
 
   pub load-conflict : length t ≡ 104 → 104 ≤ lowestOut t → (firstOf 3 (conflicts t) ≡ 0 → ⊥) → loadOf t ≡ refusal (firstOf 3 (conflicts t)) 0
@@ -68,26 +68,26 @@ pub record Refused (t : List ℤ) (n : ℕ) : Type 0 where
   pub none : (m : ℕ) → 1 ≤ m → m < n → condition t m ≡ false
 
 -- each number is returned in its own condition and in no other
-pub number-own : (t : List ℤ) (n : ℕ) → 1 ≤ n → Refused t n → loadNumber t ≡ n
-unfolding loadNumber condition
+pub number-own : (t : List ℤ) (n : ℕ) → 1 ≤ n → Refused t n → loadRefusal t ≡ n
+unfolding loadRefusal condition
 number-own t n l r = first-own 1 (conditions t) (n - 1) (record { holds = r .own; none = before }) ∙ omega arith
   where
     before : (j : ℕ) → j < n - 1 → getD (conditions t) j false ≡ false
     before j h = rw one-less at (r .none (suc j) (omega arith) (omega arith))
 
-pub number-only : (t : List ℤ) (n : ℕ) → 1 ≤ n → loadNumber t ≡ n → Refused t n
-unfolding loadNumber condition
+pub number-only : (t : List ℤ) (n : ℕ) → 1 ≤ n → loadRefusal t ≡ n → Refused t n
+unfolding loadRefusal condition
 number-only t n l e =
     let f = first-only 1 (conditions t) (n - 1) (omega arith) (omega arith) in
     record { own = f .holds; none = λ m a b. f .none (m - 1) (omega arith) }
 
 -- and a table loads exactly when it meets no condition
-pub loads-only : (t : List ℤ) → loadNumber t ≡ 0 → (n : ℕ) → condition t n ≡ false
-unfolding loadNumber condition
+pub loads-only : (t : List ℤ) → loadRefusal t ≡ 0 → (n : ℕ) → condition t n ≡ false
+unfolding loadRefusal condition
 loads-only t e n = first-none 1 (conditions t) (omega arith) e (n - 1)
 
-pub loads-own : (t : List ℤ) → ((n : ℕ) → 1 ≤ n → condition t n ≡ false) → loadNumber t ≡ 0
-unfolding loadNumber condition
+pub loads-own : (t : List ℤ) → ((n : ℕ) → 1 ≤ n → condition t n ≡ false) → loadRefusal t ≡ 0
+unfolding loadRefusal condition
 loads-own t h = none-first 1 (conditions t) (λ j. rw one-less at (h (suc j) (omega arith)))
 
 -- refusal 2 names the lowest slot out of range
@@ -95,7 +95,7 @@ pub record Named (t : List ℤ) (slot : ℕ) : Type 0 where
   pub out : inRange slot (wordAt t slot) ≡ false
   pub lowest : (k : ℕ) → k < slot → inRange k (wordAt t k) ≡ true
 
-pub slot-named : (t : List ℤ) → loadNumber t ≡ 2 → Named t (loadSlot t)
+pub slot-named : (t : List ℤ) → loadRefusal t ≡ 2 → Named t (loadSlot t)
 unfolding loadSlot condition conditions wordsMissing slotOut
 slot-named t e =
     let r = number-only t 2 (omega arith) e in
@@ -104,40 +104,40 @@ slot-named t e =
     rw e (record { out = at-lowest t (omega arith); lowest = λ k h. below-lowest t k h (omega arith) })
 
 -- the answer has this number and this slot, and the table where it loads
-pub answer-number : (t : List ℤ) → loadOf t .number ≡ loadNumber t
+pub answer-number : (t : List ℤ) → loadOf t .number ≡ loadRefusal t
 unfolding loadOf
-answer-number t = go (eqb (loadNumber t) 0) refl
+answer-number t = go (eqb (loadRefusal t) 0) refl
   where
-    go : (b : Bool) → eqb (loadNumber t) 0 ≡ b → cond b (record { number = 0; slot = 0; table = t }) (refusal (loadNumber t) (loadSlot t)) .number ≡ loadNumber t
-    go true e = sym (eqb-true (loadNumber t) 0 e)
+    go : (b : Bool) → eqb (loadRefusal t) 0 ≡ b → cond b (record { number = 0; slot = 0; table = t }) (refusal (loadRefusal t) (loadSlot t)) .number ≡ loadRefusal t
+    go true e = sym (eqb-true (loadRefusal t) 0 e)
     go false e = refl
 
 pub answer-slot : (t : List ℤ) → loadOf t .slot ≡ loadSlot t
 unfolding loadOf loadSlot
-answer-slot t = go (eqb (loadNumber t) 0) refl
+answer-slot t = go (eqb (loadRefusal t) 0) refl
   where
-    go : (b : Bool) → eqb (loadNumber t) 0 ≡ b → cond b (record { number = 0; slot = 0; table = t }) (refusal (loadNumber t) (loadSlot t)) .slot ≡ loadSlot t
-    go true e = rw (eqb-true (loadNumber t) 0 e)
+    go : (b : Bool) → eqb (loadRefusal t) 0 ≡ b → cond b (record { number = 0; slot = 0; table = t }) (refusal (loadRefusal t) (loadSlot t)) .slot ≡ loadSlot t
+    go true e = rw (eqb-true (loadRefusal t) 0 e)
     go false e = refl
 
-pub answer-table : (t : List ℤ) → loadNumber t ≡ 0 → loadOf t .table ≡ t
+pub answer-table : (t : List ℤ) → loadRefusal t ≡ 0 → loadOf t .table ≡ t
 unfolding loadOf
 answer-table t e = rw e
 
 -- the slot that a refused load names is one of the table's
-named-small : (t : List ℤ) → loadNumber t ≡ 2 → lowestOut t < 104
+named-small : (t : List ℤ) → loadRefusal t ≡ 2 → lowestOut t < 104
 unfolding condition conditions slotOut
 named-small t e = ltb-true (lowestOut t) 104 (number-only t 2 (omega arith) e .own)
 
 pub slot-small : (t : List ℤ) → loadOf t .slot ≤ 104
 unfolding loadSlot
-slot-small t = rw (answer-slot t) (by (eqb (loadNumber t) 2) refl)
+slot-small t = rw (answer-slot t) (by (eqb (loadRefusal t) 2) refl)
   where
-    by : (b : Bool) → eqb (loadNumber t) 2 ≡ b → cond b (lowestOut t) 0 ≤ 104
-    by true e = omega (arith, named-small t (eqb-true (loadNumber t) 2 e))
+    by : (b : Bool) → eqb (loadRefusal t) 2 ≡ b → cond b (lowestOut t) 0 ≤ 104
+    by true e = omega (arith, named-small t (eqb-true (loadRefusal t) 2 e))
     by false e = omega arith
 
 -- the defaults load
-pub defaults-load : loadNumber defaultTable ≡ 0
-unfolding loadNumber conditions conflicts firstOf some wordsMissing slotOut fieldWrong errorBitWrong spanEmpty notAbove pointsNotRising originMissing frozenByEdge freezeOnEdge differ differsFrom polaritiesDiffer outFrom inRange rowAt rowOf defaultTable defaultsFrom
+pub defaults-load : loadRefusal defaultTable ≡ 0
+unfolding loadRefusal conditions conflicts firstOf some wordsMissing slotOut fieldWrong errorBitWrong spanEmpty notAbove pointsNotRising originMissing frozenByEdge freezeOnEdge differ differsFrom polaritiesDiffer outFrom inRange rowAt rowOf defaultTable defaultsFrom
 defaults-load = refl

@@ -13,7 +13,7 @@ use Rattle.parameters.specs.Rows.{inRange, lowestOut, defaultTable}
 use Rattle.parameters.specs.RowLaws.{below-lowest, at-lowest}
 use Rattle.parameters.specs.Slots.{wordAt}
 use Rattle.parameters.specs.Search.{firstOf}
-use Rattle.parameters.specs.Load.{wordsMissing, slotOut, fieldWrong, errorBitWrong, spanEmpty, pointsNotRising, originMissing, freezeOnEdge, polaritiesDiffer, conflicts, conditions, condition, loadNumber, loadSlot, refusal, loadOf}
+use Rattle.parameters.specs.Load.{wordsMissing, slotOut, fieldWrong, errorBitWrong, spanEmpty, pointsNotRising, originMissing, freezeOnEdge, polaritiesDiffer, conflicts, conditions, condition, loadRefusal, loadSlot, refusal, loadOf}
 use Rattle.parameters.specs.LoadLaws.{loads-only, defaults-load}
 
 pub record Valid (t : List ℤ) : Type 0 where
@@ -28,7 +28,7 @@ pub record Valid (t : List ℤ) : Type 0 where
   pub polarities : polaritiesDiffer t ≡ false
 
 -- a table that loads is valid, and a valid table loads
-pub loads : (t : List ℤ) → loadNumber t ≡ 0 → Valid t
+pub loads : (t : List ℤ) → loadRefusal t ≡ 0 → Valid t
 unfolding condition conditions conflicts wordsMissing slotOut
 loads t e =
     let long : length t ≡ 104 = eqb-true (length t) 104 (not-false (eqb (length t) 104) (loads-only t e 1)) in
@@ -45,8 +45,8 @@ loads t e =
       polarities = loads-only t e 9;
     }
 
-pub valid-loads : {t : List ℤ} → Valid t → loadNumber t ≡ 0
-unfolding loadNumber conditions conflicts firstOf wordsMissing slotOut
+pub valid-loads : {t : List ℤ} → Valid t → loadRefusal t ≡ 0
+unfolding loadRefusal conditions conflicts firstOf wordsMissing slotOut
 valid-loads {t} v =
     rw (
       eq-eqb (length t) 104 (v .long),
@@ -75,8 +75,8 @@ defaults-valid = loads defaultTable defaults-load
 -- whatever load answers, its table is valid: the one loaded, or the defaults
 pub load-valid : (t : List ℤ) → Valid (loadOf t .table)
 unfolding loadOf
-load-valid t = go (eqb (loadNumber t) 0) refl
+load-valid t = go (eqb (loadRefusal t) 0) refl
   where
-    go : (b : Bool) → eqb (loadNumber t) 0 ≡ b → Valid (cond b (record { number = 0; slot = 0; table = t }) (refusal (loadNumber t) (loadSlot t)) .table)
-    go true e = loads t (eqb-true (loadNumber t) 0 e)
+    go : (b : Bool) → eqb (loadRefusal t) 0 ≡ b → Valid (cond b (record { number = 0; slot = 0; table = t }) (refusal (loadRefusal t) (loadSlot t)) .table)
+    go true e = loads t (eqb-true (loadRefusal t) 0 e)
     go false e = defaults-valid

@@ -12,7 +12,7 @@ use Rattle.analog.specs.Drives.{driveOf}
 use Rattle.integers.specs.Fraction.{Frac, Ratio}
 use Rattle.measurement.specs.declared.Measured.{Measured}
 use Rattle.measurement.specs.Curve.{steepest}
-use Rattle.measurement.specs.Measure.{errorNumber, turnedOf, measuredOf, usedPoints, exactCurve}
+use Rattle.measurement.specs.Measure.{errorNumber, directedOf, measuredOf, usedPoints, exactCurve}
 use Rattle.parameters.specs.Slots as slot
 use Rattle.settings.specs.Settings.{layoutOf, scalingOf, pointsOf}
 use Rattle.ssi.specs.Telegram.{accepted, errorReported, positionOf, widthOf}
@@ -23,12 +23,12 @@ unfoldable pub acceptsOf : List ℤ → ℕ → Bool
 acceptsOf t w = accepted (layoutOf t) w
 
 -- step 1: "p after direction"
-unfoldable pub directedOf : List ℤ → ℕ → ℕ
-directedOf t w = turnedOf (slot.direction t) (widthOf (layoutOf t)) (positionOf (layoutOf t) w)
+unfoldable pub directedAt : List ℤ → ℕ → ℕ
+directedAt t w = directedOf (slot.direction t) (widthOf (layoutOf t)) (positionOf (layoutOf t) w)
 
 -- steps 2 to 5: the result and the error
 unfoldable pub measuredAt : List ℤ → ℕ → Measured
-measuredAt t w = measuredOf (scalingOf t) (pointsOf t) (directedOf t w) (errorReported (layoutOf t) w)
+measuredAt t w = measuredOf (scalingOf t) (pointsOf t) (directedAt t w) (errorReported (layoutOf t) w)
 
 -- the code of the result in the format and between the ends of the table
 unfoldable pub codeAt : List ℤ → Measured → ℤ
@@ -43,7 +43,7 @@ readingOf t w = record { result = measuredAt t w .result; error = measuredAt t w
 
 -- L(E), and S, of a telegram
 unfoldable pub curveAt : List ℤ → ℕ → Frac
-curveAt t w = exactCurve (scalingOf t) (pointsOf t) (directedOf t w)
+curveAt t w = exactCurve (scalingOf t) (pointsOf t) (directedAt t w)
 
 unfoldable pub slopeAt : List ℤ → Ratio
 slopeAt t = steepest (slot.linearization t) (usedPoints (scalingOf t) (pointsOf t))

@@ -20,11 +20,11 @@ use Rattle.parameters.specs.Valid.{Valid}
 use Rattle.settings.specs.Settings.{layoutOf, scalingOf, pointsOf}
 use Rattle.settings.specs.SettingsLaws.{scaling-sound, points-ordered}
 use Rattle.ssi.specs.Telegram.{errorReported}
-use Rattle.reading.specs.Reading.{directedOf, measuredAt, readingOf, curveAt, slopeAt}
+use Rattle.reading.specs.Reading.{directedAt, measuredAt, readingOf, curveAt, slopeAt}
 
 pub accurate : {t : List ℤ} → Valid t → (w : ℕ) → readingOf t w .error ≡ Error.None → Accurate (readingOf t w .result) (curveAt t w) (slopeAt t)
 unfolding readingOf measuredAt curveAt slopeAt scalingOf
-accurate {t} v w e = reading-accurate (scalingOf t) (pointsOf t) (directedOf t w) (errorReported (layoutOf t) w) (scaling-sound v .divider) (points-ordered v) e
+accurate {t} v w e = reading-accurate (scalingOf t) (pointsOf t) (directedAt t w) (errorReported (layoutOf t) w) (scaling-sound v .divider) (points-ordered v) e
 
 judged-within : (b : Bool) (z : ℤ) → Within Z (judgedOf b z .result)
 unfolding judgedOf
@@ -42,4 +42,4 @@ judged-within b z =
 
 pub result-within : (t : List ℤ) (w : ℕ) → Within Z (readingOf t w .result)
 unfolding readingOf measuredAt measuredOf
-result-within t w = judged-within (errorReported (layoutOf t) w) (valueOf (scalingOf t) (pointsOf t) (directedOf t w))
+result-within t w = judged-within (errorReported (layoutOf t) w) (valueOf (scalingOf t) (pointsOf t) (directedAt t w))

@@ -4,7 +4,7 @@ ghost use mathlib.Core.Path.{_≡_};
 ghost use lib.ListN.{length};
 ghost use Rattle.parameters.specs.Valid.{Valid};
 ghost use Rattle.settings.specs.Settings.{pointsOf};
-ghost use Rattle.reading.specs.Reading.{acceptsOf, directedOf, measuredAt, codeAt, driveAt, readingOf};
+ghost use Rattle.reading.specs.Reading.{acceptsOf, directedAt, measuredAt, codeAt, driveAt, readingOf};
 use analog::Drive;
 use measurement::Error;
 use measurement::Measured;
@@ -34,11 +34,11 @@ pub fn accepts(t: &[i32; 104], telegram: u32) -> bool
 // The position of a telegram after direction.
 pub fn directed(t: &[i32; 104], telegram: u32) -> u32
     requires { ⌜ Valid (now t) ⌝ }
-    ensures { λ r. ⌜ r ≡ directedOf (now (t .entry)) telegram ⌝ }
+    ensures { λ r. ⌜ r ≡ directedAt (now (t .entry)) telegram ⌝ }
 {
     let l = settings::layout(t);
     let p = ssi::position(l, telegram);
-    measurement::turned(number(t, slots::DIRECTION), ssi::width(l), p)
+    measurement::directed(number(t, slots::DIRECTION), ssi::width(l), p)
 }
 
 // The words of the control points.

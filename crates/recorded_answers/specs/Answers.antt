@@ -18,7 +18,7 @@ use Rattle.parameters.specs.Slots.{bitsPerTurn}
 use Rattle.settings.specs.Settings.{layoutOf}
 use Rattle.ssi.specs.declared.Layout.{Layout}
 use Rattle.ssi.specs.Builder.{builtOf}
-use Rattle.ssi.specs.Telegram.{readingOf, diagnosisOf}
+use Rattle.ssi.specs.Telegram.{contentOf, diagnosisOf}
 use Rattle.recorded_answers.specs.declared.case.Difference.{Difference}
 use Rattle.recorded_answers.specs.declared.case.Difference.the-variants.{Nothing, Load, Builder, Reading, Diagnosis, Extremes as ExtremesDiffer}
 
@@ -46,9 +46,9 @@ buildsAs l c at =
 -- telegram: refusal, position, error
 unfoldable pub readsAs : Layout → List ℕ → ℕ → Bool
 readsAs l c at =
-    (eqb (readingOf l (wordIn c (at + 4)) .refusal) (wordIn c (at + 5))
-    && eqb (readingOf l (wordIn c (at + 4)) .position) (wordIn c (at + 6)))
-    && eqb (boolByte (readingOf l (wordIn c (at + 4)) .error)) (wordIn c (at + 7))
+    (eqb (contentOf l (wordIn c (at + 4)) .refusal) (wordIn c (at + 5))
+    && eqb (contentOf l (wordIn c (at + 4)) .position) (wordIn c (at + 6)))
+    && eqb (boolByte (contentOf l (wordIn c (at + 4)) .error)) (wordIn c (at + 7))
 
 -- the same telegram: refusal, turns, place within the turn
 unfoldable pub diagnosesAs : Layout → ℕ → List ℕ → ℕ → Bool

@@ -24,7 +24,7 @@ fn reads(l: Layout, c: &[u8; 728], at: usize) -> bool
     requires { ⌜ Sound l × (at ≤ 150) ⌝ }
     ensures { λ r. ⌜ r ≡ readsAs l (now (c .entry)) at ⌝ }
 {
-    let r = ssi::read(l, case::word(c, at + 4));
+    let r = ssi::content_of(l, case::word(c, at + 4));
     (r.refusal as u32 == case::word(c, at + 5))
         & (r.position == case::word(c, at + 6))
         & (r.error as u32 == case::word(c, at + 7))

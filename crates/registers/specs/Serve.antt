@@ -14,7 +14,7 @@ use Rattle.modbus.specs.declared.Request.the-variants.{Broken, Ignored, Excepti
 use Rattle.modbus.specs.declared.replies.Reply.{Reply}
 use Rattle.modbus.specs.Request.{writeFunction, shownRegister, askedOf}
 use Rattle.modbus.specs.Replies.{readReply, writeReply, exceptionReply, packed}
-use Rattle.parameters.specs.Load.{loadNumber}
+use Rattle.parameters.specs.Load.{loadRefusal}
 use Rattle.parameters.specs.Slots.{wordAt, withWord}
 use Rattle.registers.specs.declared.Response.{Response}
 
@@ -65,7 +65,7 @@ carriedOut node s due register z =
 -- "passes it through every load check ..; a failed check changes nothing and is answered by exception 3"
 unfoldable pub writtenOf : ℕ → State → Bool → ℕ → ℤ → Served
 writtenOf node s due register z =
-    cond (eqb (loadNumber (writtenTable s register z)) 0)
+    cond (eqb (loadRefusal (writtenTable s register z)) 0)
     (carriedOut node s due register z)
     (unchanged s (sent due (packed (exceptionReply node writeFunction 3))) 0)
 

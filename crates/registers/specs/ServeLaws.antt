@@ -27,12 +27,12 @@ use Rattle.modbus.specs.Crc.{sealed}
 use Rattle.modbus.specs.Replies.{readFrame, writeFrame, readReply, writeReply, exceptionReply, longestReply, packed}
 use Rattle.panel.specs.declared.Loaded.{Loaded}
 use Rattle.panel.specs.Load.{loadedOf}
-use Rattle.parameters.specs.Load.{loadNumber}
+use Rattle.parameters.specs.Load.{loadRefusal}
 use Rattle.parameters.specs.LoadLaws.{answer-number}
 use Rattle.parameters.specs.Slots.{wordAt, offsetSlot, preselectionSlot}
 use Rattle.parameters.specs.Stores.{word-stored, offset-stored, preselection-stored}
 use Rattle.parameters.specs.Valid.{Valid, loads}
-use Rattle.reading.specs.Reading.{directedOf}
+use Rattle.reading.specs.Reading.{directedAt}
 use Rattle.registers.specs.Serve.{Served, slotIn, wordIn, sent, unchanged, writtenTable, carriedOut, writtenOf, requestOf, servedOf}
 
 -- ---- every frame
@@ -40,14 +40,14 @@ use Rattle.registers.specs.Serve.{Served, slotIn, wordIn, sent, unchange
 -- a frame changes nothing, or it is a write carried out, of a table that loads
 by-written : (node : ℕ) (s : State) (due : Bool) (register : ℕ) (z : ℤ) (Q : Served → Type 0) →
     ((reply : Reply) (n : ℕ) → Q (unchanged s reply n)) →
-    (loadNumber (writtenTable s register z) ≡ 0 → Q (carriedOut node s due register z)) → Q (writtenOf node s due register z)
+    (loadRefusal (writtenTable s register z) ≡ 0 → Q (carriedOut node s due register z)) → Q (writtenOf node s due register z)
 unfolding writtenOf
 by-written node s due register z Q same carried =
-    by-test (eqb (loadNumber (writtenTable s register z)) 0) _ _ Q (λ t. carried (eqb-true _ 0 (is-true _ t))) (λ _. same _ _)
+    by-test (eqb (loadRefusal (writtenTable s register z)) 0) _ _ Q (λ t. carried (eqb-true _ 0 (is-true _ t))) (λ _. same _ _)
 
 by-request : (node : ℕ) (s : State) (due : Bool) (q : Request) (Q : Served → Type 0) →
     ((reply : Reply) (n : ℕ) → Q (unchanged s reply n)) →
-    ((register : ℕ) (z : ℤ) → loadNumber (writtenTable s register z) ≡ 0 → Q (carriedOut node s due register z)) → Q (requestOf node s due q)
+    ((register : ℕ) (z : ℤ) → loadRefusal (writtenTable s register z) ≡ 0 → Q (carriedOut node s due register z)) → Q (requestOf node s due q)
 unfolding requestOf
 by-request node s due Broken Q same carried = same _ _
 by-request node s due Ignored Q same carried = same _ _
@@ -57,7 +57,7 @@ by-request node s due (Write register z) Q same carried = by-written node s due 
 
 pub by-served : (node : ℕ) (s : State) (f : List ℕ) (Q : Served → Type 0) →
     ((reply : Reply) (n : ℕ) → Q (unchanged s reply n)) →
-    ((register : ℕ) (z : ℤ) → loadNumber (writtenTable s register z) ≡ 0 → Q (carriedOut node s (askedOf node f .reply) register z)) → Q (servedOf node s f)
+    ((register : ℕ) (z : ℤ) → loadRefusal (writtenTable s register z) ≡ 0 → Q (carriedOut node s (askedOf node f .reply) register z)) → Q (servedOf node s f)
 unfolding servedOf
 by-served node s f Q same carried = by-request node s (askedOf node f .reply) (askedOf node f .request) Q same carried
 
@@ -78,7 +78,7 @@ request-fits node s due Ignored = omega arith
 request-fits node s due (Exception function code) = sent-fits due _ (omega arith)
 request-fits node s due (Read register) = sent-fits due _ (omega arith)
 request-fits node s due (Write register z) =
-    by-test (eqb (loadNumber (writtenTable s register z)) 0) _ _ (λ (x : Served). x .reply .length ≤ longestReply)
+    by-test (eqb (loadRefusal (writtenTable s register z)) 0) _ _ (λ (x : Served). x .reply .length ≤ longestReply)
     (λ _. sent-fits _ (packed (writeReply node register)) (omega arith))
     (λ _. sent-fits _ (packed (exceptionReply node writeFunction 3)) (omega arith))
 
@@ -102,7 +102,7 @@ still node s f = by-served node s f (λ (x : Served). x .afresh ≡ false → x 
 
 -- A WRITE CARRIED OUT STARTS AFRESH with a table that loads
 pub record Afresh (s : State) : Type 0 where
-  pub loads : loadNumber (s .table) ≡ 0
+  pub loads : loadRefusal (s .table) ≡ 0
   pub fresh : s ≡ freshOf (s .table)
 
 pub afresh : (node : ℕ) (s : State) (f : List ℕ) → servedOf node s f .afresh ≡ true → Afresh (servedOf node s f .state)
@@ -127,7 +127,7 @@ not-due node s Broken = refl
 not-due node s Ignored = refl
 not-due node s (Exception function code) = refl
 not-due node s (Read register) = refl
-not-due node s (Write register z) = by-test (eqb (loadNumber (writtenTable s register z)) 0) _ _ (λ (x : Served). x .reply ≡ packed []) (λ _. refl) (λ _. refl)
+not-due node s (Write register z) = by-test (eqb (loadRefusal (writtenTable s register z)) 0) _ _ (λ (x : Served). x .reply ≡ packed []) (λ _. refl) (λ _. refl)
 
 -- A FRAME TO ANOTHER NODE HAS NO REPLY, nor has a broadcast, which is to no node
 pub no-reply-to-others : (node : ℕ) (s : State) (f : List ℕ) → (addressIn f ≡ node → ⊥) → servedOf node s f .reply ≡ packed []
@@ -184,7 +184,7 @@ module _ (node : ℕ) (s : State) (n : ℕ) (h : n < 104) where
 
 -- A SLOT THAT WAS WRITTEN IS READ BACK AS IT
 module _ (node : ℕ) (s : State) (n : ℕ) (h : n < 104) (z : ℤ) (o : node ≡ 0 → ⊥) where
-  word-written : loadNumber (writtenTable s (2 * n) z) ≡ 0 → wordAt (freshOf (writtenTable s (2 * n) z) .table) n ≡ z
+  word-written : loadRefusal (writtenTable s (2 * n) z) ≡ 0 → wordAt (freshOf (writtenTable s (2 * n) z) .table) n ≡ z
   unfolding freshOf
   word-written e =
       let half : 2 * n / 2 ≡ n = omega arith in
@@ -207,7 +207,7 @@ shown-read node s o = rw (read-asked node shownRegister o refl)
 
 -- THE TABLE READ IS THE ONE IN FORCE: after a reset the offset's slot is read as p after direction, after a teach the preselection's as the result
 pub reset-read : (node : ℕ) (s : State) → (node ≡ 0 → ⊥) → Valid (s .table) →
-    servedOf node (resetOf s) (readFrame node (2 * offsetSlot)) .reply ≡ packed (readReply node (pos (directedOf (s .table) (s .live .telegram))))
+    servedOf node (resetOf s) (readFrame node (2 * offsetSlot)) .reply ≡ packed (readReply node (pos (directedAt (s .table) (s .live .telegram))))
 unfolding resetOf rereadOf
 reset-read node s o v =
     ap Served.reply (slot-read node (resetOf s) offsetSlot (omega arith) o) ∙ ap (λ (y : ℤ). packed (readReply node y)) (offset-stored _ v)
@@ -226,14 +226,14 @@ started node t l due register =
     record { state = stateOf t (l .state .live); reply = sent due (packed (writeReply node register)); number = 0; afresh = true }
 
 module _ (node : ℕ) (s : State) (due : Bool) (register : ℕ) (z : ℤ) (t : List ℤ) (l : Loaded) (e : t ≡ writtenTable s register z) (k : l ≡ loadedOf t) where
-  number-of-load : l .number ≡ loadNumber (writtenTable s register z)
+  number-of-load : l .number ≡ loadRefusal (writtenTable s register z)
   unfolding loadedOf
   number-of-load = rw (k, e) (answer-number (writtenTable s register z))
 
   pub refused-write : (l .number ≡ 0 → ⊥) → unchanged s (sent due (packed (exceptionReply node writeFunction 3))) 0 ≡ writtenOf node s due register z
   unfolding writtenOf
-  refused-write n = rw (ne-eqb (loadNumber (writtenTable s register z)) 0 (λ q. n (number-of-load ∙ q)))
+  refused-write n = rw (ne-eqb (loadRefusal (writtenTable s register z)) 0 (λ q. n (number-of-load ∙ q)))
 
   pub write-done : l .number ≡ 0 → started node t l due register ≡ writtenOf node s due register z
   unfolding writtenOf loadedOf freshOf
-  write-done n = rw (eq-eqb (loadNumber (writtenTable s register z)) 0 (sym number-of-load ∙ n), k, e)
+  write-done n = rw (eq-eqb (loadRefusal (writtenTable s register z)) 0 (sym number-of-load ∙ n), k, e)

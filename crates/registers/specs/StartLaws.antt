@@ -14,7 +14,7 @@ use Rattle.integers.specs.Choice.{by-test, is-true}
 use Rattle.integers.specs.TestLaws.{and-both}
 use Rattle.panel.specs.declared.Loaded.{Loaded}
 use Rattle.panel.specs.Load.{loadedOf}
-use Rattle.parameters.specs.Load.{loadNumber}
+use Rattle.parameters.specs.Load.{loadRefusal}
 use Rattle.parameters.specs.LoadLaws.{answer-number, answer-table, slot-small}
 use Rattle.parameters.specs.Valid.{load-valid, defaults-valid}
 use Rattle.registers.specs.Start.{isNode, startedOf}
@@ -37,7 +37,7 @@ node-most node e = leb-true node 247 (and-both (leb 1 node) (leb node 247) e .1)
 -- WHAT STARTS, given what is answered
 pub record Starts (node : ℕ) (t : List ℤ) (l : Loaded) : Type 0 where
   pub address : node ≤ 247
-  pub loads : loadNumber t ≡ 0
+  pub loads : loadRefusal t ≡ 0
   pub fresh : l .state ≡ freshOf t
 
 pub starts : (node : ℕ) (t : List ℤ) → startedOf node t .number ≡ 0 → Starts node t (startedOf node t)

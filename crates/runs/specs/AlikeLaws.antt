@@ -10,7 +10,7 @@ use lib.Seq.{ext-getD, getD-drop}
 use Rattle.measurement.specs.Measure.{usedPoints}
 use Rattle.parameters.specs.Slots as slot
 use Rattle.parameters.specs.Stores.{Alike}
-use Rattle.reading.specs.Reading.{acceptsOf, directedOf, measuredAt, codeAt, driveAt, readingOf, curveAt, slopeAt}
+use Rattle.reading.specs.Reading.{acceptsOf, directedAt, measuredAt, codeAt, driveAt, readingOf, curveAt, slopeAt}
 use Rattle.settings.specs.Settings.{layoutOf, scalingOf, pointsOf, preselectionOf, preselectionsOf}
 use Rattle.switching.specs.Switching.{preselectionAt}
 
@@ -46,8 +46,8 @@ module _ {s t : List ℤ} (a : Alike s t) where
   unfolding acceptsOf
   accepts-alike w = rw layout-alike
 
-  pub directed-alike : (w : ℕ) → directedOf s w ≡ directedOf t w
-  unfolding directedOf
+  pub directed-alike : (w : ℕ) → directedAt s w ≡ directedAt t w
+  unfolding directedAt
   directed-alike w = rw (layout-alike, at 6 (λ e. omega arith) (λ k h e. omega arith))
 
   -- ---- the inputs

@@ -8,7 +8,7 @@ use lib.IntN.{ℤ, pos}
 use Rattle.events.specs.declared.Event.{Event}
 use Rattle.events.specs.declared.Event.the-variants.{Telegram, Levels, Tick}
 use Rattle.parameters.specs.Slots.{offset, action, config}
-use Rattle.reading.specs.Reading.{acceptsOf, directedOf}
+use Rattle.reading.specs.Reading.{acceptsOf, directedAt}
 use Rattle.settings.specs.Settings.{layoutOf}
 use Rattle.ssi.specs.Telegram.{errorReported}
 use Rattle.commands.specs.Commands.{resetRefusal, highAt, actsOn}
@@ -44,11 +44,11 @@ asksReset t b l i = actsOn (config t i) (highAt (b .levels) i) (highAt l i) && e
 
 -- 13 or 12 for its telegram, else 0. Error 3 is told by the telegram alone: its error bit is at the error level
 unfoldable pub bookRefusal : List ℤ → Book → ℕ
-bookRefusal t b = resetRefusal (b .seen) (cond (errorReported (layoutOf t) (b .telegram)) 3 0) (directedOf t (b .telegram))
+bookRefusal t b = resetRefusal (b .seen) (cond (errorReported (layoutOf t) (b .telegram)) 3 0) (directedAt t (b .telegram))
 
 -- "unless 13 or 12 holds for its telegram, sets O to that telegram's p after direction"
 unfoldable pub bookInput : List ℤ → ℕ → ℕ → Book → Book
-bookInput t l i b = cond (asksReset t b l i && eqb (bookRefusal t b) 0) (movesTo b (pos (directedOf t (b .telegram)))) b
+bookInput t l i b = cond (asksReset t b l i && eqb (bookRefusal t b) 0) (movesTo b (pos (directedAt t (b .telegram)))) b
 
 -- ---- events
 

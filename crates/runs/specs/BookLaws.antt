@@ -17,7 +17,7 @@ use Rattle.integers.specs.Limit.{Z}
 use Rattle.measurement.specs.Measure.{errorNumber, measured, judgedOf, valueOf, measuredOf}
 use Rattle.parameters.specs.Slots.{offsetSlot, preselectionSlot, action, offset}
 use Rattle.parameters.specs.Stores.{word-kept, offset-stored}
-use Rattle.reading.specs.Reading.{acceptsOf, directedOf, measuredAt, readingOf}
+use Rattle.reading.specs.Reading.{acceptsOf, directedAt, measuredAt, readingOf}
 use Rattle.settings.specs.Settings.{layoutOf, scalingOf, pointsOf}
 use Rattle.ssi.specs.Telegram.{errorReported}
 use Rattle.panel.specs.declared.Answer.{Answer}
@@ -25,7 +25,7 @@ use Rattle.commands.specs.Commands.{Acted}
 use Rattle.commands.specs.declared.state.State.{State}
 use Rattle.commands.specs.State.{freshOf, withLevels, withTelegram}
 use Rattle.commands.specs.Commands.{errorOf, rereadOf, acted, resetRefusal, resetOf, clearLocksOf, clearExtremesOf, teachOf, refusalOf, carriedOut, commandOf, edgeAt, inputOf, commandsOf}
-use Rattle.panel.specs.Step.{answerOf, switchedOf, displayedOf, settledOf, telegramOf, levelsOf, tickOf, stepOf}
+use Rattle.panel.specs.Step.{answerOf, switchedOf, displayedOf, settledOf, onTelegram, onLevels, onTick, stepOf}
 use Rattle.commands.specs.Valid.{Good}
 use Rattle.commands.specs.CommandLaws.{by-command, good-input}
 use Rattle.panel.specs.ValidLaws.{good-step}
@@ -52,7 +52,7 @@ judged-bit false v =
 
 reading-bit : (t : List ℤ) (w : ℕ) → eqb (errorNumber (readingOf t w .error)) 3 ≡ errorReported (layoutOf t) w
 unfolding readingOf measuredAt measuredOf
-reading-bit t w = judged-bit (errorReported (layoutOf t) w) (valueOf (scalingOf t) (pointsOf t) (directedOf t w))
+reading-bit t w = judged-bit (errorReported (layoutOf t) w) (valueOf (scalingOf t) (pointsOf t) (directedAt t w))
 
 -- ---- a reset is refused in the state exactly where it is in the book
 
@@ -64,29 +64,29 @@ refusal-by true true error place f = rw (f tt)
 refusal-by true false error place f = rw (f tt)
 
 module _ {t : List ℤ} {s : State} (k : Kept t s) where
-  refusal-same : resetRefusal (s .live .seen) (errorOf s) (directedOf (s .table) (s .live .telegram)) ≡ bookRefusal t (bookIn s)
+  refusal-same : resetRefusal (s .live .seen) (errorOf s) (directedAt (s .table) (s .live .telegram)) ≡ bookRefusal t (bookIn s)
   unfolding bookRefusal
   refusal-same =
       rw (directed-alike (k .alike) (s .live .telegram))
-      (refusal-by (s .live .seen) (errorReported (layoutOf t) (s .live .telegram)) (errorOf s) (directedOf t (s .live .telegram))
+      (refusal-by (s .live .seen) (errorReported (layoutOf t) (s .live .telegram)) (errorOf s) (directedAt t (s .live .telegram))
       (λ y. rw (k .read y, ← layout-alike (k .alike)) (reading-bit (s .table) (s .live .telegram))))
 
 -- ---- a command
 
-pub book-reset : {t : List ℤ} {s : State} → Good s → Kept t s → bookIn (resetOf s) ≡ movesTo (bookIn s) (pos (directedOf t (s .live .telegram)))
+pub book-reset : {t : List ℤ} {s : State} → Good s → Kept t s → bookIn (resetOf s) ≡ movesTo (bookIn s) (pos (directedAt t (s .live .telegram)))
 unfolding resetOf rereadOf
-book-reset {t} {s} g k = rw (offset-stored (pos (directedOf (s .table) (s .live .telegram))) (g .table), directed-alike (k .alike) (s .live .telegram))
+book-reset {t} {s} g k = rw (offset-stored (pos (directedAt (s .table) (s .live .telegram))) (g .table), directed-alike (k .alike) (s .live .telegram))
 
-reset-command : (a : ℕ) (s : State) → T (eqb a 1) → commandOf a s .state ≡ cond (eqb (resetRefusal (s .live .seen) (errorOf s) (directedOf (s .table) (s .live .telegram))) 0) (resetOf s) s
+reset-command : (a : ℕ) (s : State) → T (eqb a 1) → commandOf a s .state ≡ cond (eqb (resetRefusal (s .live .seen) (errorOf s) (directedAt (s .table) (s .live .telegram))) 0) (resetOf s) s
 unfolding commandOf refusalOf carriedOut
 reset-command a s y =
     rw (is-true (eqb a 1) y)
-    (map-cond (λ (x : Acted). x .state) (eqb (resetRefusal (s .live .seen) (errorOf s) (directedOf (s .table) (s .live .telegram))) 0) _ _)
+    (map-cond (λ (x : Acted). x .state) (eqb (resetRefusal (s .live .seen) (errorOf s) (directedAt (s .table) (s .live .telegram))) 0) _ _)
 
 module _ {t : List ℤ} {s : State} (g : Good s) (k : Kept t s) where
   -- O after a command
   abbrev Moved : Bool → Book
-  Moved resets = cond (resets && eqb (bookRefusal t (bookIn s)) 0) (movesTo (bookIn s) (pos (directedOf t (s .live .telegram)))) (bookIn s)
+  Moved resets = cond (resets && eqb (bookRefusal t (bookIn s)) 0) (movesTo (bookIn s) (pos (directedAt t (s .live .telegram)))) (bookIn s)
 
   book-command : (a : ℕ) → bookIn (commandOf a s .state) ≡ Moved (eqb a 1)
   unfolding clearLocksOf clearExtremesOf teachOf
@@ -129,7 +129,7 @@ unfolding switchedOf displayedOf
 book-settled s = refl
 
 pub book-step : {t : List ℤ} {s : State} → Good s → Kept t s → (e : Event) → bookIn (stepOf s e .state) ≡ bookStep t (bookIn s) e
-unfolding stepOf telegramOf levelsOf tickOf answerOf bookStep rereadOf
+unfolding stepOf onTelegram onLevels onTick answerOf bookStep rereadOf
 book-step {t} {s} g k (Telegram w) =
     rw (accepts-alike (k .alike) w)
     (map-cond (λ (a : Answer). bookIn (a .state)) (acceptsOf t w) _ _

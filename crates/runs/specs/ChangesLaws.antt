@@ -13,7 +13,7 @@ use Rattle.events.specs.declared.Event.the-variants.{Telegram, Levels, Tick}
 use Rattle.integers.specs.Choice.{by-test}
 use Rattle.parameters.specs.Slots.{offsetSlot, preselectionSlot, action, withOffset}
 use Rattle.parameters.specs.Stores.{word-kept, offset-alike}
-use Rattle.reading.specs.Reading.{acceptsOf, directedOf}
+use Rattle.reading.specs.Reading.{acceptsOf, directedAt}
 use Rattle.settings.specs.Settings.{preselectionsOf}
 use Rattle.switching.specs.declared.Preselection.{Preselection}
 use Rattle.switching.specs.declared.Switch.{Switch}
@@ -27,10 +27,10 @@ use Rattle.commands.specs.Commands.{Acted}
 use Rattle.commands.specs.declared.state.State.{State}
 use Rattle.commands.specs.State.{freshOf, withLevels, withTelegram, withSwitches}
 use Rattle.commands.specs.Commands.{rereadOf, acted, resetOf, clearLocksOf, clearExtremesOf, isTeach, teachOf, refusalOf, commandOf, edgeAt, inputOf, commandsOf}
-use Rattle.panel.specs.Step.{answerOf, switchedOf, displayedOf, settledOf, telegramOf, levelsOf, tickOf, stepOf}
+use Rattle.panel.specs.Step.{answerOf, switchedOf, displayedOf, settledOf, onTelegram, onLevels, onTick, stepOf}
 use Rattle.commands.specs.CommandLaws.{by-command, by-input}
 use Rattle.panel.specs.ValidLaws.{by-switched, by-step}
-use Rattle.runs.specs.Run.{answersOf, counted, seenIn, teaches, storesAt, storedBy, stored}
+use Rattle.runs.specs.Run.{answersOf, tracked, seenIn, teaches, storesAt, storedBy, stored}
 use Rattle.runs.specs.AlikeLaws.{action-alike, preselections-alike}
 use Rattle.runs.specs.RunLaws.{step-own, own-result, own-error}
 use Rattle.runs.specs.KeptLaws.{Kept, kept-input, kept-step}
@@ -81,7 +81,7 @@ command-stores : (a : ℕ) (s : State) → T (not (teaches a s)) → preselectio
 unfolding teaches resetOf rereadOf clearLocksOf clearExtremesOf
 command-stores a s n =
     by-command a s (λ (u : State). preselectionsIn u ≡ preselectionsIn s) refl
-    (λ _ _. offset-preselections (s .table) (pos (directedOf (s .table) (s .live .telegram)))) refl refl
+    (λ _ _. offset-preselections (s .table) (pos (directedAt (s .table) (s .live .telegram)))) refl refl
     (λ k h y z. absurd (never (teaches a s) (both (isTeach a) (eqb (refusalOf a s) 0) y z) n))
 
 input-stores : (l i : ℕ) (x : Acted) → T (not (storesAt l i x)) → preselectionsIn (inputOf l i x .state) ≡ preselectionsIn (x .state)
@@ -96,7 +96,7 @@ unfolding switchedOf displayedOf
 settled-table s = refl
 
 pub step-stores : (s : State) (e : Event) → T (not (storedBy s e)) → preselectionsIn (stepOf s e .state) ≡ preselectionsIn s
-unfolding stepOf telegramOf levelsOf tickOf answerOf storedBy commandsOf rereadOf
+unfolding stepOf onTelegram onLevels onTick answerOf storedBy commandsOf rereadOf
 step-stores s (Telegram w) n =
     by-test (acceptsOf (s .table) w) _ _ (λ (a : Answer). preselectionsIn (a .state) ≡ preselectionsIn s)
     (λ _. rw (settled-table (rereadOf (withTelegram s w)))) (λ _. refl)
@@ -209,8 +209,8 @@ module _ (k : ℕ) (small : k < 4) where
 -- ---- an event turns a condition by the rule of its mode
 
 -- the result that travel counts is the state's
-pub counted-is : {t : List ℤ} {s : State} → Kept t s → (e : Event) → counted (stepOf s e) ≡ stepOf s e .state .live .reading .result
-counted-is {t} {s} c e = rw (own-error (step-own s e), own-result (step-own s e)) (kept-step t c e .zeroed)
+pub tracked-is : {t : List ℤ} {s : State} → Kept t s → (e : Event) → tracked (stepOf s e) ≡ stepOf s e .state .live .reading .result
+tracked-is {t} {s} c e = rw (own-error (step-own s e), own-result (step-own s e)) (kept-step t c e .zeroed)
 
 module _ (ps : List Preselection) (k : ℕ) (small : k < 4) (hy : T (hysteretic (preselectionAt ps k .mode))) where
   -- the law of preselection k + 1: at the result r its condition goes from was to on
@@ -284,7 +284,7 @@ module _ (ps : List Preselection) (k : ℕ) (small : k < 4) (hy : T (hysteretic 
   lawful s [] c i u = tt
   lawful {t} s (e ∷ es) c i u =
       let l = law-step s e i (u .0) in (
-        subst (λ (r : ℤ). Obeys r (switchIn s k .on) (switchIn (stepOf s e .state) k .on)) (sym (counted-is c e)) (l .turns),
+        subst (λ (r : ℤ). Obeys r (switchIn s k .on) (switchIn (stepOf s e .state) k .on)) (sym (tracked-is c e)) (l .turns),
         lawful (stepOf s e .state) es (kept-step t c e) (l .ready) (u .1),
       )
 

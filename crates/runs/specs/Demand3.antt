@@ -10,7 +10,7 @@ use lib.IntN.{ℤ, pos}
 use Rattle.events.specs.declared.Event.{Event}
 use Rattle.integers.specs.Fraction.{Frac, Accurate}
 use Rattle.measurement.specs.declared.Error.the-variants as Error
-use Rattle.parameters.specs.Load.{loadNumber}
+use Rattle.parameters.specs.Load.{loadRefusal}
 use Rattle.parameters.specs.Slots.{linearization, mode, hysteresis, withOffset}
 use Rattle.reading.specs.Reading.{curveAt, slopeAt}
 use Rattle.switching.specs.Travel.{travel, changes, hysteretic}
@@ -34,4 +34,4 @@ pub record Demand3 (t : List ℤ) (es : List Event) : Type 0 where
 
 -- for every table that loads and every list of events
 abbrev pub Demanded : Type 0
-Demanded = (t : List ℤ) → loadNumber t ≡ 0 → (es : List Event) → Demand3 t es
+Demanded = (t : List ℤ) → loadRefusal t ≡ 0 → (es : List Event) → Demand3 t es

@@ -17,7 +17,7 @@ use Rattle.integers.specs.Limit.{Z}
 use Rattle.measurement.specs.Measure.{errorNumber, measured, judgedOf, valueOf, measuredOf}
 use Rattle.parameters.specs.Slots.{offsetSlot, preselectionSlot, action, offset, withOffset, withPreselection}
 use Rattle.parameters.specs.Stores.{Alike, word-kept, offset-alike, preselection-alike}
-use Rattle.reading.specs.Reading.{directedOf, measuredAt, readingOf}
+use Rattle.reading.specs.Reading.{directedAt, measuredAt, readingOf}
 use Rattle.settings.specs.Settings.{layoutOf, scalingOf, pointsOf}
 use Rattle.ssi.specs.Telegram.{errorReported}
 use Rattle.commands.specs.Commands.{Acted}
@@ -46,7 +46,7 @@ judged-zeroed b v =
 
 pub reading-zeroed : (t : List ℤ) (w : ℕ) → Zeroed (readingOf t w .result) (errorNumber (readingOf t w .error))
 unfolding readingOf measuredAt measuredOf
-reading-zeroed t w = judged-zeroed (errorReported (layoutOf t) w) (valueOf (scalingOf t) (pointsOf t) (directedOf t w))
+reading-zeroed t w = judged-zeroed (errorReported (layoutOf t) w) (valueOf (scalingOf t) (pointsOf t) (directedAt t w))
 
 -- ---- what is kept
 
@@ -68,7 +68,7 @@ module _ (t : List ℤ) where
   unfolding resetOf clearLocksOf clearExtremesOf teachOf
   kept-command a s g =
       by-command a s (Kept t) g
-      (λ _ _. let p = pos (directedOf (s .table) (s .live .telegram)) in kept-reread (withTable s (withOffset (s .table) p)) (alike-trans (offset-alike (s .table) p) (g .alike)))
+      (λ _ _. let p = pos (directedAt (s .table) (s .live .telegram)) in kept-reread (withTable s (withOffset (s .table) p)) (alike-trans (offset-alike (s .table) p) (g .alike)))
       (record { alike = g .alike; read = g .read; zeroed = g .zeroed })
       (record { alike = g .alike; read = g .read; zeroed = g .zeroed })
       (λ k h _ _. record {

@@ -124,5 +124,5 @@ saids [] = []
 saids (p ∷ ps) = p .said ∷ saids ps
 
 pub checked : gots places ≡ saids places
-unfolding places lastOf answersOf freshOf step.stepOf step.telegramOf step.answerOf step.displayedOf step.shownAfter step.switchedOf step.switchesAfter step.frozen step.freezes command.rereadOf command.notedOf reading.acceptsOf reading.directedOf reading.measuredAt reading.codeAt reading.driveAt reading.readingOf settings.layoutOf settings.scalingOf settings.pointsOf settings.preselectionOf settings.preselectionsOf ssi.accepted ssi.errorReported ssi.positionOf ssi.grayDecoded measure.turnedOf measure.distanceOf measure.scaledOf measure.judgedOf measure.usedPoints measure.valueOf measure.measuredOf curve.pointsFrom curve.rightOf curve.fourQuadrants curve.oneQuadrant curve.curve curve.linearizedOf roundDiv floorMod row.defaultTable row.defaultsFrom row.rowAt row.rowOf switching.suppresses switching.releasedOf switching.heldOf switching.pulseOf switching.signalOf switching.activeOf switching.turnedOf switching.lockedOf switching.switchedOf switching.partnerOf switching.switchedAt eachFrom condition.latchedOf condition.onAbove condition.onBelow condition.onNear condition.compared condition.against condition.ruleOf condition.conditionOf condition.exceeds analog.codeOf analog.held drive.driveOf drive.floatOf ofInt mul div add
+unfolding places lastOf answersOf freshOf step.stepOf step.onTelegram step.answerOf step.displayedOf step.shownAfter step.switchedOf step.switchesAfter step.frozen step.freezes command.rereadOf command.widenedOf reading.acceptsOf reading.directedAt reading.measuredAt reading.codeAt reading.driveAt reading.readingOf settings.layoutOf settings.scalingOf settings.pointsOf settings.preselectionOf settings.preselectionsOf ssi.accepted ssi.errorReported ssi.positionOf ssi.grayDecoded measure.directedOf measure.distanceOf measure.scaledOf measure.judgedOf measure.usedPoints measure.valueOf measure.measuredOf curve.pointsFrom curve.rightOf curve.fourQuadrants curve.oneQuadrant curve.curve curve.linearizedOf roundDiv floorMod row.defaultTable row.defaultsFrom row.rowAt row.rowOf switching.suppresses switching.releasedOf switching.heldOf switching.pulseOf switching.signalOf switching.activeOf switching.conditionedOf switching.lockedOf switching.switchedOf switching.partnerOf switching.switchedAt eachFrom condition.latchedOf condition.onAbove condition.onBelow condition.onNear condition.compared condition.against condition.ruleOf condition.conditionOf condition.exceeds analog.codeOf analog.held drive.driveOf drive.floatOf ofInt mul div add
 checked = refl

@@ -9,7 +9,7 @@ use Rattle.commands.specs.declared.state.State.{State}
 use Rattle.panel.specs.Load.{loadedOf}
 use Rattle.commands.specs.State.{freshOf}
 use Rattle.panel.specs.Step.{answerOf}
-use Rattle.parameters.specs.Load.{loadNumber}
+use Rattle.parameters.specs.Load.{loadRefusal}
 use Rattle.parameters.specs.LoadLaws.{answer-number, answer-table}
 use Rattle.runs.specs.declared.Ran.{Ran}
 use Rattle.runs.specs.Demand3Laws.{demand3}
@@ -17,13 +17,13 @@ use Rattle.runs.specs.Ran.{ran, ranOf, Promised}
 use Rattle.runs.specs.Run.{answersOf, lastOf, lastAnswer}
 
 -- load's number is the table's
-number-is : (t : List ℤ) → loadedOf t .number ≡ loadNumber t
+number-is : (t : List ℤ) → loadedOf t .number ≡ loadRefusal t
 unfolding loadedOf
 number-is t = answer-number t
 
 pub refused-run : (t : List ℤ) (es : List Event) → (loadedOf t .number ≡ 0 → ⊥) → ran (loadedOf t .number) (loadedOf t .slot) (answerOf (loadedOf t .state) 0) ≡ ranOf t es
 unfolding ranOf
-refused-run t es n = rw (ne-eqb (loadNumber t) 0 (λ z. n (number-is t ∙ z)))
+refused-run t es n = rw (ne-eqb (loadRefusal t) 0 (λ z. n (number-is t ∙ z)))
 
 pub refused-promise : (t : List ℤ) (es : List Event) (r : Ran) → (loadedOf t .number ≡ 0 → ⊥) → Promised t es r
 refused-promise t es r n = record { last = λ z. absurd (n (number-is t ∙ z)); claim = λ z. absurd (n (number-is t ∙ z)) }
@@ -38,7 +38,7 @@ loaded-last t es z = ap (λ (u : List ℤ). from-load (freshOf u) es) (answer-ta
 
 pub loaded-run : (t : List ℤ) (es : List Event) (a : Answer) → loadedOf t .number ≡ 0 → a ≡ lastAnswer t es → ran 0 0 a ≡ ranOf t es
 unfolding ranOf
-loaded-run t es a z e = rw (eq-eqb (loadNumber t) 0 (sym (number-is t) ∙ z)) (ap (ran 0 0) e)
+loaded-run t es a z e = rw (eq-eqb (loadRefusal t) 0 (sym (number-is t) ∙ z)) (ap (ran 0 0) e)
 
 pub loaded-promise : (t : List ℤ) (es : List Event) (a : Answer) → a ≡ lastAnswer t es → Promised t es (ran 0 0 a)
 loaded-promise t es a e = record { last = λ z. e; claim = λ z. demand3 t z es }

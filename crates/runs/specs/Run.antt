@@ -36,12 +36,12 @@ abbrev pub lastAnswer : List ℤ → List Event → Answer
 lastAnswer t es = lastOf (answerOf (freshOf t) 0) (answersOf (freshOf t) es)
 
 -- "travel .. the result answered .. and 0 under an error", and condition k + 1, after each event
-abbrev pub counted : Answer → ℤ
-counted a = cond (eqb (errorNumber (a .error)) 0) (a .result) (pos 0)
+abbrev pub tracked : Answer → ℤ
+tracked a = cond (eqb (errorNumber (a .error)) 0) (a .result) (pos 0)
 
 unfoldable pub seenIn : ℕ → List Answer → List Seen
 seenIn k [] = []
-seenIn k (a ∷ rest) = record { result = counted a; on = switchAt (a .state .live .switches) k .on } ∷ seenIn k rest
+seenIn k (a ∷ rest) = record { result = tracked a; on = switchAt (a .state .live .switches) k .on } ∷ seenIn k rest
 
 -- results and condition k + 1 along the run of a table
 abbrev pub traceOf : List ℤ → List Event → ℕ → List Seen

@@ -12,7 +12,7 @@ use Rattle.integers.specs.Choice.{by-test}
 use Rattle.reading.specs.Reading.{acceptsOf}
 use Rattle.panel.specs.declared.Answer.{Answer}
 use Rattle.commands.specs.declared.state.State.{State}
-use Rattle.panel.specs.Step.{answerOf, telegramOf, levelsOf, tickOf, stepOf}
+use Rattle.panel.specs.Step.{answerOf, onTelegram, onLevels, onTick, stepOf}
 use Rattle.runs.specs.Run.{runOf, answersOf, lastOf}
 
 -- ---- one event more, and none left
@@ -46,7 +46,7 @@ answer-own s note = refl
 
 -- refused or not
 pub step-own : (s : State) (e : Event) → Own (stepOf s e)
-unfolding stepOf telegramOf levelsOf tickOf
+unfolding stepOf onTelegram onLevels onTick
 step-own s (Telegram w) = by-test (acceptsOf (s .table) w) _ _ Own (λ _. answer-own _ _) (λ _. answer-own _ _)
 step-own s (Levels l) = by-test (leb l 7) _ _ Own (λ _. answer-own _ _) (λ _. answer-own _ _)
 step-own s (Tick ms) = answer-own _ _

@@ -5,21 +5,21 @@ use lib.IntN.{negsuc}
 use Rattle.decimal.specs.Decimal.{digitsIn, digitsOf, textOf, valueFrom, numberIn, sameText, parsedOf}
 use Rattle.text.specs.Words.{partsOf, wordsOf, trimmedOf}
 use Rattle.text.specs.Hex.{hexDigit, allHex, isHex, hexFrom, hexLetter, spacedPairs, hexText}
-use Rattle.script.specs.Commands.{naturalIn, naturalBy, naturalOf, signedIn, signedBy, signedOf, slotOf, startOf, telegramOf, levelsOf, allPairs, isFrame, pairsOf, framedOf, namedIn, meaningOf, frameIn, frameOf, commandOf}
+use Rattle.script.specs.Commands.{naturalIn, naturalBy, naturalOf, signedIn, signedBy, signedOf, slotOf, startOf, telegramIn, levelsOf, allPairs, isFrame, pairsOf, framedOf, namedIn, meaningOf, frameIn, frameOf, commandOf}
 use Rattle.script.specs.declared.Command.the-variants.{Blank, Wrong, Slot, Start, Telegram, Levels, Frame}
 
 -- `  t  1aF` and a carriage return
 telegram-line : commandOf (32 ∷ 32 ∷ 116 ∷ 32 ∷ 32 ∷ 49 ∷ 97 ∷ 70 ∷ 13 ∷ []) ≡ Telegram 0x1AF
-unfolding commandOf trimmedOf wordsOf partsOf meaningOf namedIn sameText telegramOf isHex allHex hexFrom hexDigit
+unfolding commandOf trimmedOf wordsOf partsOf meaningOf namedIn sameText telegramIn isHex allHex hexFrom hexDigit
 telegram-line = refl
 
 -- `t` alone, and `t 1 2`
 bare-telegram : commandOf (116 ∷ []) ≡ Wrong 6
-unfolding commandOf trimmedOf wordsOf partsOf meaningOf namedIn sameText telegramOf isHex allHex hexFrom hexDigit
+unfolding commandOf trimmedOf wordsOf partsOf meaningOf namedIn sameText telegramIn isHex allHex hexFrom hexDigit
 bare-telegram = refl
 
 two-telegrams : commandOf (116 ∷ 32 ∷ 49 ∷ 32 ∷ 50 ∷ []) ≡ Wrong 6
-unfolding commandOf trimmedOf wordsOf partsOf meaningOf namedIn sameText telegramOf isHex allHex hexFrom hexDigit
+unfolding commandOf trimmedOf wordsOf partsOf meaningOf namedIn sameText telegramIn isHex allHex hexFrom hexDigit
 two-telegrams = refl
 
 -- `i 255` and `i 256`

@@ -18,7 +18,7 @@ use Rattle.script.specs.declared.Integer.{Integer}
 use Rattle.script.specs.declared.Integer.the-variants.{Word, Other}
 use Rattle.script.specs.declared.Command.{Command}
 use Rattle.script.specs.declared.Command.the-variants.{Blank, Wrong, Node, Slot, Start, Telegram, Levels, Tick, Frame}
-use Rattle.script.specs.Commands.{naturalOf, signedOf, lastNode, lastSlot, tooLong, badTelegram, badFrame, nodeBy, nodeOf, slotBy, slotOf, startOf, telegramOf, levelsBy, levelsOf, tickBy, tickOf, isFrame, framedOf, Entry, table, namedIn, meaningOf, longest, hash, commandOf}
+use Rattle.script.specs.Commands.{naturalOf, signedOf, lastNode, lastSlot, tooLong, badTelegram, badFrame, nodeBy, nodeOf, slotBy, slotOf, startOf, telegramIn, levelsBy, levelsOf, tickBy, tickOf, isFrame, framedOf, Entry, table, namedIn, meaningOf, longest, hash, commandOf}
 use Rattle.script.specs.NumberLaws.{count-most}
 
 -- whether the numbers of a command lie in their ranges
@@ -61,8 +61,8 @@ unfolding startOf inRange
 start-in [] = refl
 start-in (w ∷ ws) = refl
 
-telegram-in : (ws : List (List ℕ)) → inRange (telegramOf ws) ≡ true
-unfolding telegramOf inRange
+telegram-in : (ws : List (List ℕ)) → inRange (telegramIn ws) ≡ true
+unfolding telegramIn inRange
 telegram-in ws = either (isHex 1 8 (onlyOf ws)) (Telegram (hexOf (onlyOf ws))) (Wrong badTelegram) refl refl
 
 levels-in : (ws : List (List ℕ)) → inRange (levelsOf ws) ≡ true

@@ -17,7 +17,7 @@ use Rattle.text.specs.PlainLaws.{words-back, trimmed-same, text-plain}
 use Rattle.text.specs.Hex.{hexIn, pairWords, allBytes}
 use Rattle.text.specs.HexLaws.{hex-is, spaced-length}
 use Rattle.text.specs.HexBackLaws.{hexin-length, hexin-hex, hexin-word, hexin-back, pair-back, pair-hex, pairs-count, pair-words, pair-text}
-use Rattle.script.specs.Commands.{naturalBy, naturalIn, naturalOf, signedBy, signedOf, nodeOf, slotOf, startOf, telegramOf, levelsOf, tickOf, framedOf, mostBytes, allPairs, isFrame, pairsOf, frameIn, frameOf, namedIn, namedOf, meaningOf, longest, hash, commandOf, nodeWord, slotWord, startWord, telegramWord, levelsWord, tickWord, frameWord}
+use Rattle.script.specs.Commands.{naturalBy, naturalIn, naturalOf, signedBy, signedOf, nodeOf, slotOf, startOf, telegramIn, levelsOf, tickOf, framedOf, mostBytes, allPairs, isFrame, pairsOf, frameIn, frameOf, namedIn, namedOf, meaningOf, longest, hash, commandOf, nodeWord, slotWord, startWord, telegramWord, levelsWord, tickWord, frameWord}
 use Rattle.script.specs.NumberLaws.{signed-word}
 use Rattle.script.specs.declared.Command.the-variants.{Node, Slot, Start, Telegram, Levels, Tick, Frame}
 
@@ -82,7 +82,7 @@ slot-back n z h p q =
 
 -- `t HEX` is read back, every word of 32 bits as eight digits
 pub telegram-back : (n : ℕ) → n < 2 ^ 32 → commandOf (spoken (telegramWord ∷ (hexIn 8 n ∷ []))) ≡ Telegram n
-unfolding namedIn sameText telegramOf allPlain
+unfolding namedIn sameText telegramIn allPlain
 telegram-back n h =
     let l = hexin-length 8 n in
     plain-means telegramWord (hexIn 8 n ∷ []) (more (record { some = omega arith; all = refl }) (last (hexin-word 8 n (omega arith)))) (λ q. omega arith) (rw pair-length (omega arith))

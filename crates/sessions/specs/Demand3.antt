@@ -7,7 +7,7 @@ use mathlib.Core.List.{List}
 use Prim.Native.Nat.{ℕ}
 use lib.IntN.{ℤ}
 use Rattle.commands.specs.State.{freshOf}
-use Rattle.parameters.specs.Load.{loadNumber}
+use Rattle.parameters.specs.Load.{loadRefusal}
 use Rattle.registers.specs.Start.{startedOf}
 use Rattle.runs.specs.Demand3.{Demand3}
 use Rattle.runs.specs.Run.{runOf, lastAnswer}
@@ -19,7 +19,7 @@ lastRun node t xs = runIn node (freshOf t) (begun t) xs
 
 pub record SessionDemand (node : ℕ) (t : List ℤ) (xs : List Entry) : Type 0 where
   -- the table that was in force when the run began loads
-  pub loads : loadNumber (lastRun node t xs .table) ≡ 0
+  pub loads : loadRefusal (lastRun node t xs .table) ≡ 0
   -- the panel after the session is the one after the run, which its last answer carries
   pub panel : sessionOf node (freshOf t) xs ≡ runOf (freshOf (lastRun node t xs .table)) (lastRun node t xs .events)
   pub answered : sessionOf node (freshOf t) xs ≡ lastAnswer (lastRun node t xs .table) (lastRun node t xs .events) .state

@@ -9,7 +9,7 @@ use Rattle.commands.specs.declared.state.State.{State}
 use Rattle.commands.specs.State.{freshOf}
 use Rattle.events.specs.declared.Event.{Event}
 use Rattle.panel.specs.Step.{answerOf, stepOf}
-use Rattle.parameters.specs.Load.{loadNumber}
+use Rattle.parameters.specs.Load.{loadRefusal}
 use Rattle.registers.specs.Serve.{servedOf}
 use Rattle.registers.specs.ServeLaws.{still, afresh}
 use Rattle.registers.specs.StartLaws.{starts}
@@ -32,7 +32,7 @@ last-run r = sym (last-state (answerOf (freshOf (r .table)) 0) (r .events))
 
 -- the panel is the one after the run, whose table loads
 record Follows (s : State) (r : Run) : Type 0 where
-  loads : loadNumber (r .table) ≡ 0
+  loads : loadRefusal (r .table) ≡ 0
   panel : s ≡ runOf (freshOf (r .table)) (r .events)
 
 -- and stays it
@@ -57,7 +57,7 @@ follows-all node s r h [] = h
 follows-all node s r h (x ∷ xs) = follows-all node (entered node s x) (continued node s r x) (follows node s r h x) xs
 
 -- every session
-session-demand : (node : ℕ) (t : List ℤ) → loadNumber t ≡ 0 → (xs : List Entry) → SessionDemand node t xs
+session-demand : (node : ℕ) (t : List ℤ) → loadRefusal t ≡ 0 → (xs : List Entry) → SessionDemand node t xs
 unfolding runOf
 session-demand node t e xs =
     let h = follows-all node (freshOf t) (begun t) (record { loads = e; panel = refl }) xs in

@@ -26,12 +26,12 @@ unfoldable pub scalingOf : List ℤ → Scaling
 scalingOf t =
     record {
       offset = slot.offset t;
-      round = slot.roundLoop t;
+      «round_loop» = slot.roundLoop t;
       factor = slot.factor t;
       divider = slot.divider t;
       additive = slot.additive t;
       linearization = slot.linearization t;
-      points = slot.pointsInUse t;
+      used = slot.pointsInUse t;
     }
 
 -- slots 56 to 103: the words of the control points

@@ -98,7 +98,7 @@ module _ {t : List ℤ} (v : Valid t) where
   scaling-sound =
       record {
         offset = ranges.offset-range v;
-        round = ranges.round-loop-range v;
+        round-loop = ranges.round-loop-range v;
         factor = ranges.factor-range v .1;
         divider = ranges.divider-range v .0;
         additive = ranges.additive-range v;

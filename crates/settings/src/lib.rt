@@ -30,12 +30,12 @@ pub fn scaling(t: &[i32; 104]) -> Scaling
 {
     Scaling {
         offset: word(t, slots::OFFSET),
-        round: number(t, slots::ROUND_LOOP),
+        round_loop: number(t, slots::ROUND_LOOP),
         factor: number(t, slots::FACTOR),
         divider: number(t, slots::DIVIDER),
         additive: word(t, slots::ADDITIVE),
         linearization: number(t, slots::LINEARIZATION),
-        points: number(t, slots::POINTS_IN_USE) as usize,
+        used: number(t, slots::POINTS_IN_USE) as usize,
     }
 }
 

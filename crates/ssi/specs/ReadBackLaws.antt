@@ -10,7 +10,7 @@ use lib.Dec.{ltb, eqb}
 use lib.Pow.{pow-mono, shl-lt}
 use Rattle.ssi.specs.declared.Layout.{Layout}
 use Rattle.ssi.specs.Sound.{Sound, errorBit, errorLevel}
-use Rattle.ssi.specs.Telegram.{accepted, errorReported, positionOf, readingOf, modulus, levelOf, worth, withoutBit, decoded}
+use Rattle.ssi.specs.Telegram.{accepted, errorReported, positionOf, contentOf, modulus, levelOf, worth, withoutBit, decoded}
 use Rattle.ssi.specs.Builder.{coded, levelAsked, telegramOf, builtOf, BlankZero}
 use Rattle.ssi.specs.PartLaws.{coded-lt, level-outside, level-lt, level-mark, level-without, level-beside, without-mark, without-sum, without-le, mark-lt, field-read, field-built, low-zero, high-zero}
 use Rattle.ssi.specs.SoundLaws.{field-fits, outside-field}
@@ -137,11 +137,11 @@ unfolding builtOf
 built-is l p asked h m = rw (lt-leb (modulus l) p h, not-both l asked m)
 
 -- an accepted telegram is read
-pub reading-is : (l : Layout) (t : ℕ) → accepted l t ≡ true → readingOf l t ≡ record { refusal = 0; position = positionOf l t; error = errorReported l t }
-unfolding readingOf
+pub reading-is : (l : Layout) (t : ℕ) → accepted l t ≡ true → contentOf l t ≡ record { refusal = 0; position = positionOf l t; error = errorReported l t }
+unfolding contentOf
 reading-is l t a = rw a
 
 pub reads-built : (l : Layout) → Sound l → (p : ℕ) (asked : Bool) → p < modulus l → (asked ≡ true → 0 < errorBit l)
-    → readingOf l (telegramOf l p asked) ≡ record { refusal = 0; position = p; error = asked }
+    → contentOf l (telegramOf l p asked) ≡ record { refusal = 0; position = p; error = asked }
 reads-built l s p asked h m =
     reading-is l (telegramOf l p asked) (built-accepted l s p asked h) ∙ rw (built-position l s p asked h, built-error l s p asked h m)

@@ -5,7 +5,7 @@ use Prim.Native.Nat.{ℕ, zero, suc, _+_, _-_, _*_, _/_, _%_, _^_}
 use lib.Count.{onesIn}
 use lib.Dec.{ltb, eqb}
 use Rattle.ssi.specs.declared.Layout.{Layout}
-use Rattle.ssi.specs.declared.Reading.{Reading}
+use Rattle.ssi.specs.declared.Content.{Content}
 use Rattle.ssi.specs.declared.Diagnosis.{Diagnosis}
 use Rattle.ssi.specs.Sound.{errorBit, errorLevel}
 
@@ -59,8 +59,8 @@ unfoldable pub positionOf : Layout → ℕ → ℕ
 positionOf l t = decoded (l .format) (l .resolution) (withoutBit (errorBit l) t) / 2 ^ (l .low - 1) % modulus l
 
 -- a telegram read; with 11 there is no position and no error
-unfoldable pub readingOf : Layout → ℕ → Reading
-readingOf l t =
+unfoldable pub contentOf : Layout → ℕ → Content
+contentOf l t =
     cond (accepted l t)
     (record { refusal = 0; position = positionOf l t; error = errorReported l t })
     (record { refusal = 11; position = 0; error = false })

@@ -5,7 +5,7 @@ ghost use mathlib.Core.Bool.{_&&_};
 ghost use Prim.Native.Nat.{_-_, _^_, _≤_, _<_};
 ghost use lib.Dec.{eqb};
 ghost use Rattle.ssi.specs.Sound.{Sound, errorBit};
-ghost use Rattle.ssi.specs.Telegram.{accepted, levelOf, errorReported, withoutBit, grayDecoded, decoded, widthOf, modulus, positionOf, readingOf, diagnosisOf};
+ghost use Rattle.ssi.specs.Telegram.{accepted, levelOf, errorReported, withoutBit, grayDecoded, decoded, widthOf, modulus, positionOf, contentOf, diagnosisOf};
 ghost use Rattle.ssi.specs.Builder.{coded, levelAsked, telegramOf, builtOf};
 
 // How a telegram is laid out, as the table has it.
@@ -25,7 +25,7 @@ pub struct Layout {
 }
 
 // What a telegram says.
-pub struct Reading {
+pub struct Content {
     // 0, or 11 for a telegram with a bit above N.
     pub refusal: u8,
     // The position p, 0 with a refusal.
@@ -145,18 +145,18 @@ pub fn position(l: Layout, t: u32) -> u32
 }
 
 // A telegram read: its position and its error, or 11.
-pub fn read(l: Layout, t: u32) -> Reading
+pub fn content_of(l: Layout, t: u32) -> Content
     requires { ⌜ Sound l ⌝ }
-    ensures { λ r. ⌜ r ≡ readingOf l t ⌝ }
+    ensures { λ r. ⌜ r ≡ contentOf l t ⌝ }
 {
     if accepts(l, t) {
-        return Reading {
+        return Content {
             refusal: 0,
             position: position(l, t),
             error: error_reported(l, t),
         };
     }
-    Reading {
+    Content {
         refusal: 11,
         position: 0,
         error: false,

@@ -40,8 +40,8 @@ unfoldable pub activeOf : Preselection → Switch → Bool
 activeOf p s = s .locked || signalOf p s
 
 -- Switching, an event's condition and pulse start, with suppression ended or not
-unfoldable pub turnedOf : Preselection → ℤ → ℤ → Bool → Switch → Switch
-turnedOf p partner r released s =
+unfoldable pub conditionedOf : Preselection → ℤ → ℤ → Bool → Switch → Switch
+conditionedOf p partner r released s =
     record {
       on = heldOf p partner r released (s .on);
       released = released;
@@ -55,7 +55,7 @@ lockedOf p s = record { on = s .on; released = s .released; pulse = s .pulse; lo
 
 -- Switching, "after each telegram or levels event, once a telegram was accepted": one preselection, with its partner's P and the result
 unfoldable pub switchedOf : Preselection → ℤ → ℤ → Switch → Switch
-switchedOf p partner r s = lockedOf p (turnedOf p partner r (releasedOf p r (s .released)) s)
+switchedOf p partner r s = lockedOf p (conditionedOf p partner r (releasedOf p r (s .released)) s)
 
 -- Switching, "ticks use it up (never below 0)"
 abbrev pub tickedOf : ℕ → Switch → Switch

@@ -11,7 +11,7 @@ use lib.ListN.{length}
 use Rattle.switching.specs.declared.Preselection.{Preselection}
 use Rattle.switching.specs.declared.Switch.{Switch}
 use Rattle.switching.specs.Condition.{conditionOf}
-use Rattle.switching.specs.Switching.{freshSwitch, releasedOf, heldOf, turnedOf, lockedOf, switchedOf, tickedOf, unlockedOf, preselectionAt, switchAt, partnerOf, switchedAt, allSwitched, allTicked, allUnlocked}
+use Rattle.switching.specs.Switching.{freshSwitch, releasedOf, heldOf, conditionedOf, lockedOf, switchedOf, tickedOf, unlockedOf, preselectionAt, switchAt, partnerOf, switchedAt, allSwitched, allTicked, allUnlocked}
 use Rattle.switching.specs.EachLaws.{each-at}
 use Rattle.switching.specs.Travel.{hysteretic}
 use Rattle.switching.specs.TravelLaws.{Turns, view, mark, condition-turns}
@@ -31,7 +31,7 @@ held-off false on n = tt
 
 -- every event leaves it so
 pub switched-held : (p : Preselection) (partner r : ℤ) (s : Switch) → Held (switchedOf p partner r s)
-unfolding switchedOf lockedOf turnedOf heldOf
+unfolding switchedOf lockedOf conditionedOf heldOf
 switched-held p partner r s = held-off (releasedOf p r (s .released)) (conditionOf (p .mode) r (p .value) partner (p .hysteresis) (s .on))
 
 pub ticked-held : (ms : ℕ) (s : Switch) → Held s → Held (tickedOf ms s)
@@ -42,7 +42,7 @@ unlocked-held s h = h
 
 -- a suppression that has ended stays so
 pub released-stays : (p : Preselection) (partner r : ℤ) (s : Switch) → T (s .released) → T (switchedOf p partner r s .released)
-unfolding switchedOf lockedOf turnedOf releasedOf
+unfolding switchedOf lockedOf conditionedOf releasedOf
 released-stays p partner r s t = or-left (s .released) _ t
   where
     or-left : (a b : Bool) → T a → T (a || b)
@@ -64,7 +64,7 @@ module _ (g mark : ℤ) (h : ℕ) (was new : Bool) where
 
 pub switched-turns : (p : Preselection) (partner r : ℤ) (s : Switch) → T (hysteretic (p .mode)) → Held s →
     Turns (view (p .mode) r) (mark (p .mode) (p .value) partner) (p .hysteresis) (s .on) (switchedOf p partner r s .on)
-unfolding switchedOf lockedOf turnedOf heldOf releasedOf
+unfolding switchedOf lockedOf conditionedOf heldOf releasedOf
 switched-turns p partner r s y k =
     held-turns (view (p .mode) r) (mark (p .mode) (p .value) partner) (p .hysteresis) (s .on) _ (s .released) _ k
     (condition-turns (p .mode) y r (p .value) partner (p .hysteresis) (s .on))

@@ -5,7 +5,7 @@ pub mod output;
 
 ghost use mathlib.Core.Path.{_≡_};
 ghost use Prim.Native.Nat.{_-_, _<_};
-ghost use Rattle.switching.specs.Switching.{freshSwitch, suppresses, releasedOf, heldOf, pulseOf, signalOf, activeOf, turnedOf, lockedOf, switchedOf, tickedOf, unlockedOf, partnerOf, switchedAt, allSwitched, allTicked, allUnlocked};
+ghost use Rattle.switching.specs.Switching.{freshSwitch, suppresses, releasedOf, heldOf, pulseOf, signalOf, activeOf, conditionedOf, lockedOf, switchedOf, tickedOf, unlockedOf, partnerOf, switchedAt, allSwitched, allTicked, allUnlocked};
 
 // The settings of one preselection, with P in force.
 pub struct Preselection {
@@ -118,8 +118,8 @@ pub fn active(p: Preselection, s: Switch) -> bool
 }
 
 // The switch with its condition and its pulse after an event.
-fn turned(p: Preselection, partner: i32, r: i32, released: bool, s: Switch) -> Switch
-    ensures { λ q. ⌜ q ≡ turnedOf p partner r released s ⌝ }
+fn conditioned(p: Preselection, partner: i32, r: i32, released: bool, s: Switch) -> Switch
+    ensures { λ q. ⌜ q ≡ conditionedOf p partner r released s ⌝ }
 {
     let on = held(p, partner, r, released, s.on);
     let left = pulse_after(p.pulse, s.on, on, s.pulse);
@@ -148,7 +148,7 @@ pub fn switched(p: Preselection, partner: i32, r: i32, s: Switch) -> Switch
     ensures { λ q. ⌜ q ≡ switchedOf p partner r s ⌝ }
 {
     let released = released_by(p, r, s.released);
-    locked(p, turned(p, partner, r, released, s))
+    locked(p, conditioned(p, partner, r, released, s))
 }
 
 // What is left of a pulse after ms more.

@@ -2,7 +2,7 @@
 use native.Mathlib.Omega.{arith}
 use mir.Facts.{toZ-ofZ}
 use Rattle.integers.specs.Int.{ints, fit}
-use Rattle.analog.specs.CodeLaws.{lower-turned, lower-kept}
+use Rattle.analog.specs.CodeLaws.{lower-mirrored, lower-kept}
 use Rattle.analog.proofs.lower.Statement.{statement}
 use Rattle.analog.proofs.lower.Tie as tie
 
@@ -19,7 +19,7 @@ returns : tie.Need-returns
 returns c =
     let f = c .before .fits in
     let t = simp (toZ-ofZ, f .end, f .start) at (c .if1 .taken) in
-    rw (toZ-ofZ (sub-result c), toZ-ofZ (cast-result c), toZ-ofZ (cast-result-2 c), toZ-ofZ (f .start), toZ-ofZ (f .end)) (lower-turned (c .before .args .start) (c .before .args .end) t)
+    rw (toZ-ofZ (sub-result c), toZ-ofZ (cast-result c), toZ-ofZ (cast-result-2 c), toZ-ofZ (f .start), toZ-ofZ (f .end)) (lower-mirrored (c .before .args .start) (c .before .args .end) t)
 
 cast-result-3 : tie.Need-cast-result-3
 cast-result-3 c = omega (arith, ints)

@@ -48,8 +48,8 @@ shared-slice-read-word-at-4 c = search needs
 word-at-requires : tie.Need-word-at-requires Inv-loop μ-loop
 word-at-requires c κs = search needs
 
-word-requires : tie.Need-word-requires Inv-loop μ-loop
-word-requires c κs = search needs
+take-requires : tie.Need-word-requires Inv-loop μ-loop
+take-requires c κs = search needs
 
 enum-known-taken : tie.Need-enum-known-taken Inv-loop μ-loop
 enum-known-taken c = search needs
@@ -103,7 +103,7 @@ collect-spec =
     add-word-at-3
     shared-slice-read-word-at-4
     word-at-requires
-    word-requires
+    take-requires
     enum-known-taken
     word-of-requires
     mul-events

@@ -7,15 +7,15 @@ use Rattle.commands.proofs.reread.Tie as tie
 read-requires : tie.Need-read-requires
 read-requires c κs = search needs
 
-noted-requires : tie.Need-noted-requires
-noted-requires c κs = search needs
+widened-requires : tie.Need-widened-requires
+widened-requires c κs = search needs
 
 with-reading-requires : tie.Need-with-reading-requires
 with-reading-requires c κs = search needs
 
 returns : tie.Need-returns
 unfolding rereadOf
-returns c = rw (c .with-reading .ensures, c .before .noted .ensures, c .before .before .read .ensures)
+returns c = rw (c .with-reading .ensures, c .before .widened .ensures, c .before .before .read .ensures)
 
 pub reread-spec : {M : Type 1} → statement M
-reread-spec = tie.close (tie.spec read-requires noted-requires with-reading-requires returns)
+reread-spec = tie.close (tie.spec read-requires widened-requires with-reading-requires returns)

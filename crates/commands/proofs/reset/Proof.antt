@@ -7,7 +7,7 @@ use mir.Syntax.{w32}
 use mir.Val.{toZ}
 use mir.Facts.{toZ-pos}
 use Rattle.parameters.specs.Stores.{valid-offset}
-use Rattle.reading.specs.Reading.{directedOf}
+use Rattle.reading.specs.Reading.{directedAt}
 use Rattle.commands.specs.Commands.{resetOf}
 use Rattle.commands.proofs.reset.Statement.{statement}
 use Rattle.commands.proofs.reset.Tie as tie
@@ -21,7 +21,7 @@ cast-t c = search needs
 element-set-from-t : tie.Need-element-set-from-t
 element-set-from-t c = search needs
 
-directed-is : (c : tie.After-directed) → let a = c .before .before .args in toZ w32 (c .directed .result) ≡ pos (directedOf (a .t .now) (a .l .telegram))
+directed-is : (c : tie.After-directed) → let a = c .before .before .args in toZ w32 (c .directed .result) ≡ pos (directedAt (a .t .now) (a .l .telegram))
 directed-is c = toZ-pos w32 {n = c .directed .result} (omega (arith, c .directed .ensures, c .before .before .pre .1)) ∙ ap pos (c .directed .ensures)
 
 reread-requires : tie.Need-reread-requires

@@ -3,7 +3,7 @@ use borrow.Author.Needs.{needs}
 use native.Mathlib.Omega.{arith}
 use Rattle.panel.specs.Step.{answerOf}
 use Rattle.logrun.specs.Progress.{afterTaken, textTaken}
-use Rattle.lines.specs.LineLaws.{counted-range}
+use Rattle.lines.specs.LineLaws.{nextCount-range}
 use Rattle.logrun.proofs.event.Statement.{statement}
 use Rattle.logrun.proofs.event.Tie as tie
 
@@ -17,7 +17,7 @@ event-line-requires : tie.Need-event-line-requires
 event-line-requires c κs =
     let n = c .before .before .before .before .before .before in
     let start = n .before .before in
-    (omega arith, rw (n .next-count .ensures) (counted-range (start .args .c .count) (start .pre .0 .count)))
+    (omega arith, rw (n .next-count .ensures) (nextCount-range (start .args .c .count) (start .pre .0 .count)))
 
 same-length : tie.Need-same-length
 same-length c = search needs

@@ -56,8 +56,8 @@ shared-slice-read-word-at-4 c = omega arith
 word-at-requires : tie.Need-word-at-requires Inv-loop μ-loop
 word-at-requires c κs = tt
 
-word-requires : tie.Need-word-requires Inv-loop μ-loop
-word-requires c κs = (c .before .before .before .before .before .before .before .before .loop .inv .1, omega arith)
+take-requires : tie.Need-take-requires Inv-loop μ-loop
+take-requires c κs = (c .before .before .before .before .before .before .before .before .loop .inv .1, omega arith)
 
 add-i : tie.Need-add-i Inv-loop μ-loop
 add-i c =
@@ -74,7 +74,7 @@ loop-again c =
     let l = turn .before .loop in
     let start = turn .before .before .before .before in
     let bytes = start .args .bytes .now in
-    let w = c .before .before .before .word in
+    let w = c .before .before .before .take in
     let read = c .before .before .before .before .before .before .word-at in
     let more : l .i + 4 ≤ length bytes = turn .loop-test .taken in
     let p = progressOf (l .t) (l .course) in
@@ -121,7 +121,7 @@ words-spec =
     add-word-at-3
     shared-slice-read-word-at-4
     word-at-requires
-    word-requires
+    take-requires
     add-i
     loop-less
     loop-again

@@ -34,7 +34,7 @@ returns-2 : tie.Need-returns-2
 unfolding distanceOf
 returns-2 c =
     let s = c .before .before in
-    let e = rw (toZ-ofZ (sub-d s), toZ-ofZ (cast-d-2 s), toZ-ofZ (s .fits .offset), toZ-pos w64 {n = s .args .p} (omega arith), toZ-pos w64 {n = s .args .round} (omega arith)) at (c .floor-rem .ensures) in
+    let e = rw (toZ-ofZ (sub-d s), toZ-ofZ (cast-d-2 s), toZ-ofZ (s .fits .offset), toZ-pos w64 {n = s .args .p} (omega arith), toZ-pos w64 {n = s .args .round-loop} (omega arith)) at (c .floor-rem .ensures) in
     rw (ne-eqb _ _ (c .before .if1 .left), back-at w64 (c .floor-rem .result) (c .floor-rem .ok)) e
 
 pub distance-spec : {M : Type 1} → statement M

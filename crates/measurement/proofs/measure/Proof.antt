@@ -13,7 +13,7 @@ distance-requires : tie.Need-distance-requires
 distance-requires c κs = search needs
 
 -- d
-d-is : (c : tie.After-distance) → let s = c .before .before .args in bk w64 (c .distance .result) ≡ distanceOf (s .p) (s .s .offset) (s .s .round)
+d-is : (c : tie.After-distance) → let s = c .before .before .args in bk w64 (c .distance .result) ≡ distanceOf (s .p) (s .s .offset) (s .s .«round_loop»)
 d-is c =
     let s = c .before .before .args .s in
     let e : bk w32 (s .offset) ≡ s .offset = search needs in
@@ -23,11 +23,11 @@ scaled-requires : tie.Need-scaled-requires
 scaled-requires c κs =
     let a = c .before .before .before in
     let p = a .pre in
-    (rw (d-is (c .before)) (distance-within (a .args .p) (a .args .s .offset) (a .args .s .round) (omega arith) (p .offset) (p .round)), p .factor)
+    (rw (d-is (c .before)) (distance-within (a .args .p) (a .args .s .offset) (a .args .s .«round_loop») (omega arith) (p .offset) (p .round-loop)), p .factor)
 
 -- v
 v-is : (c : tie.After-scaled) → let s = c .before .before .before .before .args in
-    bk w64 (c .scaled .result) ≡ scaledOf (distanceOf (s .p) (s .s .offset) (s .s .round)) (s .s .factor) (s .s .divider) (s .s .additive)
+    bk w64 (c .scaled .result) ≡ scaledOf (distanceOf (s .p) (s .s .offset) (s .s .«round_loop»)) (s .s .factor) (s .s .divider) (s .s .additive)
 v-is c =
     let s = c .before .before .before .before .args .s in
     let e : bk w32 (s .additive) ≡ s .additive = search needs in
@@ -40,7 +40,7 @@ linearized-requires c κs =
       p .curve,
       rw (v-is c)
           (scaled-within _ (a .args .s .factor) (a .args .s .divider) (a .args .s .additive)
-          (distance-within (a .args .p) (a .args .s .offset) (a .args .s .round) (omega arith) (p .offset) (p .round)) (p .factor) (p .additive)),
+          (distance-within (a .args .p) (a .args .s .offset) (a .args .s .«round_loop») (omega arith) (p .offset) (p .round-loop)) (p .factor) (p .additive)),
     )
 
 judged-requires : tie.Need-judged-requires

@@ -1,6 +1,6 @@
 -- `panel::begin` meets its contract: the event's own function answers.
 use borrow.Author.Needs.{needs}
-use Rattle.panel.specs.Step.{tickOf, stepOf}
+use Rattle.panel.specs.Step.{onTick, stepOf}
 use Rattle.panel.proofs.begin.Statement.{statement}
 use Rattle.panel.proofs.begin.Tie as tie
 
@@ -31,7 +31,7 @@ unfolding stepOf
 returns-2 c = rw (c .before .before .before .e2 .given .1) (c .on-levels .ensures)
 
 returns-3 : tie.Need-returns-3
-unfolding tickOf stepOf
+unfolding onTick stepOf
 returns-3 c = rw (c .before .before .e3 .given .1, c .on-tick .ensures)
 
 pub begin-spec : {M : Type 1} → statement M

@@ -1,12 +1,12 @@
 -- `panel::on_levels` meets its contract: refused it leaves the old values, else what the commands leave, with the new levels.
 use borrow.Author.Needs.{needs}
 use borrow.Author.Tests.{lt-leb, le-leb}
-use Rattle.panel.specs.Step.{levelsOf}
+use Rattle.panel.specs.Step.{onLevels}
 use Rattle.panel.proofs.on_levels.Statement.{statement}
 use Rattle.panel.proofs.on_levels.Tie as tie
 
 returns : tie.Need-returns
-unfolding levelsOf
+unfolding onLevels
 returns c = rw (lt-leb _ _ (c .if1 .taken))
 
 act-requires : tie.Need-act-requires
@@ -16,7 +16,7 @@ with-levels-requires : tie.Need-with-levels-requires
 with-levels-requires c κs = search needs
 
 returns-2 : tie.Need-returns-2
-unfolding levelsOf
+unfolding onLevels
 returns-2 c = let x = c .before .before in
     rw (le-leb _ _ (x .before .before .if1 .left), c .with-levels .ensures, ← x .act .ensures)
 

@@ -4,7 +4,7 @@ use native.Mathlib.Omega.{arith}
 use Rattle.settings.specs.Settings.{layoutOf}
 use Rattle.settings.specs.SettingsLaws.{layout-sound}
 use Rattle.ssi.specs.SoundLaws.{position-lt}
-use Rattle.reading.specs.Reading.{directedOf}
+use Rattle.reading.specs.Reading.{directedAt}
 use Rattle.reading.proofs.directed.Statement.{statement}
 use Rattle.reading.proofs.directed.Tie as tie
 
@@ -20,17 +20,17 @@ number-requires c κs = search needs
 width-requires : tie.Need-width-requires
 width-requires c κs = rw (c .before .before .layout .ensures) (layout-sound (c .before .before .before .pre))
 
-turned-requires : tie.Need-turned-requires
-turned-requires c κs = let b = c .before .before in
+directed-requires : tie.Need-directed-requires
+directed-requires c κs = let b = c .before .before in
     let s = layout-sound (b .before .before .pre) in
     let t = b .before .before .args .t .now in
     rw (c .width .ensures, b .position .ensures, b .before .layout .ensures)
     (omega (arith, s .from-one, s .low-high, s .high-resolution, s .to-32), position-lt (layoutOf t) (b .before .before .args .telegram))
 
 returns : tie.Need-returns
-unfolding directedOf
+unfolding directedAt
 returns c = let b = c .before .before .before in
-    rw (c .turned .ensures, c .before .before .number .ensures, c .before .width .ensures, b .position .ensures, b .before .layout .ensures)
+    rw (c .directed .ensures, c .before .before .number .ensures, c .before .width .ensures, b .position .ensures, b .before .layout .ensures)
 
 pub directed-spec : {M : Type 1} → statement M
 directed-spec =
@@ -40,5 +40,5 @@ directed-spec =
     position-requires
     number-requires
     width-requires
-    turned-requires
+    directed-requires
     returns)

@@ -11,8 +11,8 @@ add-word c = search needs
 word-requires : tie.Need-word-requires
 word-requires c κs = search needs
 
-read-requires : tie.Need-read-requires
-read-requires c κs = search needs
+content-of-requires : tie.Need-content-of-requires
+content-of-requires c κs = search needs
 
 cast-result : tie.Need-cast-result
 cast-result c = search needs
@@ -42,7 +42,7 @@ returns : tie.Need-returns
 unfolding readsAs
 returns c = let p = c .before .before .before in
     let r = p .before .before .before in
-    rw (c .word4 .ensures, p .word3 .ensures, p .before .word2 .ensures, r .read .ensures, r .before .word .ensures)
+    rw (c .word4 .ensures, p .word3 .ensures, p .before .word2 .ensures, r .content-of .ensures, r .before .word .ensures)
 
 pub reads-spec : {M : Type 1} → statement M
 reads-spec =
@@ -50,7 +50,7 @@ reads-spec =
     (tie.spec
     add-word
     word-requires
-    read-requires
+    content-of-requires
     cast-result
     add-word-2
     word-requires-2

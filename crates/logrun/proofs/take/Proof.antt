@@ -1,11 +1,11 @@
--- `logrun::word` meets its contract: behind a refusal nothing happens, and else what the log's word gives picks the case.
+-- `logrun::take` meets its contract: behind a refusal nothing happens, and else what the log's word gives picks the case.
 use borrow.Author.Tests.{eq-eqb, ne-eqb}
 use Rattle.text.specs.PutLaws.{put-none}
 use Rattle.logrun.specs.Progress.{progressOf, afterTaken, textTaken}
 use Rattle.logrun.specs.ProgressLaws.{word-ready, fed-ended, text-ended, fed-by, text-by}
 use borrow.Author.Needs.{needs}
-use Rattle.logrun.proofs.word.Statement.{statement}
-use Rattle.logrun.proofs.word.Tie as tie
+use Rattle.logrun.proofs.take.Statement.{statement}
+use Rattle.logrun.proofs.take.Tie as tie
 
 returns : tie.Need-returns
 returns c =
@@ -14,8 +14,8 @@ returns c =
     let e = ne-eqb (p .refusal) 0 (c .if1 .taken) in
     (rw (fed-ended p (start .args .w) e), (rw (text-ended p (start .args .w) e) (put-none (start .args .out .now) (start .args .at)), start .pre .0))
 
-word-requires : tie.Need-word-requires
-word-requires c κs = search needs
+take-requires : tie.Need-take-requires
+take-requires c κs = search needs
 
 enum-known-taken : tie.Need-enum-known-taken
 enum-known-taken c = search needs
@@ -43,7 +43,7 @@ returns-2 c =
     let start = c .before .before .before .before .before .before .before .before .before .before .before .before .before .before in
     let p = progressOf (start .args .t .now) (start .args .c) in
     let w = start .args .w in
-    let s = c .before .before .before .before .before .before .before .before .before .word in
+    let s = c .before .before .before .before .before .before .before .before .before .take in
     let e = eq-eqb (p .refusal) 0 (c .before .before .before .before .before .before .before .before .before .before .before .if1 .left) in
     let f = fed-by p w (s .result) _ e (s .ensures) (c .before .before .before .before .before .before .taken .given .1) in
     let g = text-by p w (s .result) _ e (s .ensures) (c .before .before .before .before .before .before .taken .given .1) in
@@ -56,7 +56,7 @@ returns-3 c =
     let start = c .before .before .before .before .before .before .before .before .before in
     let p = progressOf (start .args .t .now) (start .args .c) in
     let w = start .args .w in
-    let s = c .before .before .before .before .word in
+    let s = c .before .before .before .before .take in
     let e = eq-eqb (p .refusal) 0 (c .before .before .before .before .before .before .if1 .left) in
     let f = fed-by p w (s .result) _ e (s .ensures) (c .before .enum-told .given .1) in
     let g = text-by p w (s .result) _ e (s .ensures) (c .before .enum-told .given .1) in
@@ -68,18 +68,18 @@ returns-4 c =
     let start = c .before .before .before .before .before .before .before .before .before .before in
     let p = progressOf (start .args .t .now) (start .args .c) in
     let w = start .args .w in
-    let s = c .before .before .before .before .before .word in
+    let s = c .before .before .before .before .before .take in
     let e = eq-eqb (p .refusal) 0 (c .before .before .before .before .before .before .before .if1 .left) in
     let f = fed-by p w (s .result) _ e (s .ensures) (c .before .before .taken2 .given .1) in
     let g = text-by p w (s .result) _ e (s .ensures) (c .before .before .taken2 .given .1) in
     (rw (f, c .quiet2 .ensures), (rw (g, c .quiet2 .ensures) (put-none (start .args .out .now) (start .args .at)), rw (c .quiet2 .ensures) (record { state = start .pre .0 .state; count = start .pre .0 .count })))
 
-pub word-spec : {M : Type 1} → statement M
-word-spec =
+pub take-spec : {M : Type 1} → statement M
+take-spec =
     tie.close
     (tie.spec
     returns
-    word-requires
+    take-requires
     enum-known-taken
     event-requires
     enum-told

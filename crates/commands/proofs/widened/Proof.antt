@@ -1,18 +1,18 @@
--- `commands::noted` meets its contract by its tests: under an error nothing is noted, and the first result is both.
+-- `commands::widened` meets its contract by its tests: under an error nothing is noted, and the first result is both.
 use borrow.Author.Needs.{needs}
 use borrow.Author.Tests.{eq-eqb, ne-eqb}
 use mathlib.Core.Path.{_≡_, sym, _∙_}
 use mir.Syntax.{w32}
 use Rattle.integers.specs.Int.{bk, back-at}
-use Rattle.commands.specs.Commands.{notedOf}
-use Rattle.commands.proofs.noted.Statement.{statement}
-use Rattle.commands.proofs.noted.Tie as tie
+use Rattle.commands.specs.Commands.{widenedOf}
+use Rattle.commands.proofs.widened.Statement.{statement}
+use Rattle.commands.proofs.widened.Tie as tie
 
 error-in-requires : tie.Need-error-in-requires
 error-in-requires c κs = search needs
 
 returns : tie.Need-returns
-unfolding notedOf
+unfolding widenedOf
 returns c = rw (ne-eqb _ _ (λ z. c .if1 .taken (c .before .error-in .ensures ∙ z)))
 
 lower-requires : tie.Need-lower-requires
@@ -22,7 +22,7 @@ higher-requires : tie.Need-higher-requires
 higher-requires c κs = search needs
 
 returns-2 : tie.Need-returns-2
-unfolding notedOf
+unfolding widenedOf
 returns-2 c = let l = c .before .before .before .lower in
     let h = c .higher in
     let b = c .before .before .before .before .before .before in
@@ -35,13 +35,13 @@ returns-2 c = let l = c .before .before .before .lower in
     rw (eq-eqb _ _ (sym (b .before .before .error-in .ensures) ∙ b .before .if1 .left), b .if2 .taken, back-at w32 (l .result) (l .ok), back-at w32 (h .result) (h .ok), l .ensures, h .ensures, er, el, eg)
 
 returns-3 : tie.Need-returns-3
-unfolding notedOf
+unfolding widenedOf
 returns-3 c = let b = c .before in
     let r = b .before .before .before .args .r in
     let er : bk w32 (r .result) ≡ r .result = search needs in
     rw (eq-eqb _ _ (sym (b .before .before .error-in .ensures) ∙ b .before .if1 .left), b .if2 .left, er)
 
-pub noted-spec : {M : Type 1} → statement M
-noted-spec =
+pub widened-spec : {M : Type 1} → statement M
+widened-spec =
     tie.close
     (tie.spec error-in-requires returns lower-requires higher-requires returns-2 returns-3)

@@ -1,4 +1,4 @@
--- `measurement::turned` meets its contract: 1 << width is 2 ^ width, and a remainder by it fits 32 bits.
+-- `measurement::directed` meets its contract: 1 << width is 2 ^ width, and a remainder by it fits 32 bits.
 use borrow.Author.Needs.{needs}
 use borrow.Author.Tests.{eq-eqb, ne-eqb}
 use mathlib.Core.Path.{_≡_, _∙_}
@@ -7,9 +7,9 @@ use native.Mathlib.Nat.{mod-lt, one-mul, lt-of-lt-of-le}
 use native.Mathlib.Omega.{arith}
 use lib.Dec.{lit<}
 use lib.Pow.{pow-pos, pow-mono, shl-exact}
-use Rattle.measurement.specs.Measure.{turnedOf}
-use Rattle.measurement.proofs.turned.Statement.{statement}
-use Rattle.measurement.proofs.turned.Tie as tie
+use Rattle.measurement.specs.Measure.{directedOf}
+use Rattle.measurement.proofs.directed.Statement.{statement}
+use Rattle.measurement.proofs.directed.Tie as tie
 
 shl-m : tie.Need-shl-m
 shl-m c = search needs
@@ -30,12 +30,12 @@ cast-result c =
     rw (m-is s) (record { fits = lt-of-lt-of-le (mod-lt (2 ^ (s .args .width) - s .args .p) (pow-pos (s .args .width))) (pow-mono {j = 32} (s .pre .0)) })
 
 returns : tie.Need-returns
-unfolding turnedOf
+unfolding directedOf
 returns c = rw (m-is (c .before), eq-eqb _ _ (c .if1 .taken))
 
 returns-2 : tie.Need-returns-2
-unfolding turnedOf
+unfolding directedOf
 returns-2 c = rw (ne-eqb _ _ (c .if1 .left))
 
-pub turned-spec : {M : Type 1} → statement M
-turned-spec = tie.close (tie.spec shl-m sub-q rem-q cast-result returns returns-2)
+pub directed-spec : {M : Type 1} → statement M
+directed-spec = tie.close (tie.spec shl-m sub-q rem-q cast-result returns returns-2)

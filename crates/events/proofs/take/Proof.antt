@@ -1,9 +1,9 @@
--- `events::word` meets its contract: each test answers for one refusal, the reserved bits first.
+-- `events::take` meets its contract: each test answers for one refusal, the reserved bits first.
 use mathlib.Core.Path.{sym, _∙_}
-use Rattle.events.specs.Log.{wordOf}
+use Rattle.events.specs.Log.{takenOf}
 use borrow.Author.Needs.{needs}
-use Rattle.events.proofs.word.Statement.{statement}
-use Rattle.events.proofs.word.Tie as tie
+use Rattle.events.proofs.take.Statement.{statement}
+use Rattle.events.proofs.take.Tie as tie
 
 reserved-set-requires : tie.Need-reserved-set-requires
 reserved-set-requires c κs = search needs
@@ -12,7 +12,7 @@ refuse-requires : tie.Need-refuse-requires
 refuse-requires c κs = search needs
 
 returns : tie.Need-returns
-unfolding wordOf
+unfolding takenOf
 returns c = rw (c .refuse .ensures, sym (c .before .before .reserved-set .ensures) ∙ c .before .if1 .taken)
 
 out-of-order-requires : tie.Need-out-of-order-requires
@@ -22,7 +22,7 @@ refuse-requires-2 : tie.Need-refuse-requires-2
 refuse-requires-2 c κs = search needs
 
 returns-2 : tie.Need-returns-2
-unfolding wordOf
+unfolding takenOf
 returns-2 c = rw (
   c .refuse2 .ensures,
   sym (c .before .before .before .before .reserved-set .ensures) ∙ c .before .before .before .if1 .left,
@@ -33,15 +33,15 @@ accept-requires : tie.Need-accept-requires
 accept-requires c κs = search needs
 
 returns-3 : tie.Need-returns-3
-unfolding wordOf
+unfolding takenOf
 returns-3 c = rw (
   c .accept .ensures,
   sym (c .before .before .before .before .reserved-set .ensures) ∙ c .before .before .before .if1 .left,
   sym (c .before .before .out-of-order .ensures) ∙ c .before .if2 .left,
 )
 
-pub word-spec : {M : Type 1} → statement M
-word-spec =
+pub take-spec : {M : Type 1} → statement M
+take-spec =
     tie.close
     (tie.spec
     reserved-set-requires
