@@ -48,7 +48,7 @@ shared-slice-read-word-at-4 c = search needs
 word-at-requires : tie.Need-word-at-requires Inv-loop μ-loop
 word-at-requires c κs = search needs
 
-take-requires : tie.Need-word-requires Inv-loop μ-loop
+take-requires : tie.Need-take-requires Inv-loop μ-loop
 take-requires c κs = search needs
 
 enum-known-taken : tie.Need-enum-known-taken Inv-loop μ-loop
