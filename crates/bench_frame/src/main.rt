@@ -1,18 +1,18 @@
 // Serves frames by `registers::answer` again and again, for bench/run to time, and prints a sum over all answers.
 // Standard input: a table as panelrun has it, then frames, each behind its length of 2 bytes, lowest first; at most 512 KiB of them. Argument: how often they are served.
-// Uses `registers` for the answers to `modbus` frames on the state of `commands`, `logrun` for the table, `decimal` for the argument, and `os`, `io` and `libc` to read and write.
-use commands::state::Live;
-use commands::state::State;
+// Uses `registers` for the answers to `modbus` frames on the values of `state`, `logrun` for the table, `decimal` for the argument, and `os`, `io` and `libc` to read and write.
 use decimal::Parsed;
 use libc::STDIN_FILENO;
 use libc::STDOUT_FILENO;
 use modbus::replies::Reply;
 use modbus::words;
+use state::Live;
+use state::State;
 ghost use mathlib.Core.Path.{_≡_};
 ghost use Prim.Native.Nat.{_≤_};
 ghost use lib.ListN.{length};
-ghost use Rattle.commands.specs.State.{stateOf};
-ghost use Rattle.commands.specs.Valid.{Good};
+ghost use Rattle.state.specs.State.{stateOf};
+ghost use Rattle.state.specs.Valid.{Good};
 
 // The node that serves.
 const NODE: u8 = 1;

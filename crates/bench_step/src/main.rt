@@ -1,20 +1,20 @@
 // Runs the events of a log through `panel::advance` again and again, for bench/run to time, and prints a sum over all answers.
 // Standard input: an input of panelrun with at most 8,192 words of log. Argument: how often the log is run.
-// Uses `logrun` and `events` to read the input, `panel` for the steps on the state of `commands`, `runs` for the words that stand for events, `measurement` and `analog` for error and drive,
+// Uses `logrun` and `events` to read the input, `panel` for the steps on the values of `state`, `runs` for the words that stand for events, `measurement` and `analog` for error and drive,
 // `decimal` for the argument, and `os`, `io` and `libc` to read and write.
 use analog::Drive;
-use commands::state::Live;
-use commands::state::Outcome;
-use commands::state::State;
 use decimal::Parsed;
 use events::Event;
 use events::Taken;
 use libc::STDIN_FILENO;
 use libc::STDOUT_FILENO;
+use state::Live;
+use state::Outcome;
+use state::State;
 ghost use Prim.Native.Nat.{_≤_, _*_};
 ghost use lib.ListN.{length};
-ghost use Rattle.commands.specs.State.{stateOf};
-ghost use Rattle.commands.specs.Valid.{Good};
+ghost use Rattle.state.specs.State.{stateOf};
+ghost use Rattle.state.specs.Valid.{Good};
 
 // The word that stands for an event.
 fn word_of(e: Event) -> u64 {

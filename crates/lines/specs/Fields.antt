@@ -3,8 +3,8 @@ use mathlib.Core.Path.{_≡_}
 use mathlib.Core.List.{List, [], _∷_, _++_, append-assoc}
 use Prim.Native.Nat.{ℕ}
 use lib.IntN.{ℤ}
-use Rattle.commands.specs.declared.state.Live.{Live}
-use Rattle.commands.specs.declared.state.Outcome.{Outcome}
+use Rattle.state.specs.declared.Live.{Live}
+use Rattle.state.specs.declared.Outcome.{Outcome}
 use Rattle.decimal.specs.Decimal.{textOf}
 use Rattle.events.specs.declared.Event.{Event}
 use Rattle.measurement.specs.Measure.{errorNumber}

@@ -10,7 +10,7 @@ use lib.IntN.{ℤ, pos}
 use lib.ListN.{length, length-append}
 use Rattle.analog.specs.declared.Drive.{Drive}
 use Rattle.analog.specs.declared.Drive.the-variants.{Off, Volts, Milliamps}
-use Rattle.commands.specs.declared.state.Live.{Live}
+use Rattle.state.specs.declared.Live.{Live}
 use Rattle.decimal.specs.Decimal.{largest, textOf}
 use Rattle.decimal.specs.DecimalLaws.{text-at-most-19}
 use Rattle.events.specs.declared.Event.{Event}

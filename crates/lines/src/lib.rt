@@ -1,9 +1,9 @@
 // The lines that panelrun prints, each put into a buffer that the caller lends, at a place, with the place behind it as the answer.
-// Uses `text` to put them, and `panel`, `commands`, `events`, `measurement` and `analog` for what a line tells.
+// Uses `text` to put them, and `panel`, `state`, `events`, `measurement` and `analog` for what a line tells.
 use analog::Drive;
-use commands::state::Live;
-use commands::state::Outcome;
 use events::Event;
+use state::Live;
+use state::Outcome;
 ghost use mathlib.Core.Path.{_≡_};
 ghost use mathlib.Core.List.{_∷_, [], _++_};
 ghost use Prim.Native.Nat.{_+_, _≤_};

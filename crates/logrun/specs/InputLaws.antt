@@ -12,7 +12,7 @@ use Rattle.parameters.specs.LoadLaws.{load-length}
 use Rattle.parameters.specs.Rows.{defaultTable}
 use Rattle.panel.specs.declared.Loaded.{Loaded}
 use Rattle.panel.specs.Load.{loadedOf}
-use Rattle.commands.specs.State.{freshOf}
+use Rattle.state.specs.State.{freshOf}
 use Rattle.logrun.specs.Input.{tableBytes, tableOf}
 
 -- four bytes a word

@@ -9,7 +9,7 @@ use Rattle.events.specs.Log.{Log}
 use Rattle.events.specs.Bytes.{logOfBytes}
 use Rattle.lines.specs.Lines.{headerLine, eventLine, nextCount, loadLine, endLine}
 use Rattle.panel.specs.declared.Loaded.{Loaded}
-use Rattle.commands.specs.declared.state.State.{State}
+use Rattle.state.specs.declared.State.{State}
 use Rattle.panel.specs.Load.{loadedOf}
 use Rattle.panel.specs.Step.{stepOf}
 use Rattle.logrun.specs.Input.{tableOf, logBytes}

@@ -18,7 +18,7 @@ use Rattle.events.specs.LogLaws.{log-word, log-end, log-start}
 use Rattle.events.specs.WordLaws.{Reason, word-reason}
 use Rattle.lines.specs.Lines.{headerLine, eventLine, nextCount, endLine}
 use Rattle.panel.specs.declared.Loaded.{Loaded}
-use Rattle.commands.specs.declared.state.State.{State}
+use Rattle.state.specs.declared.State.{State}
 use Rattle.panel.specs.Load.{loadedOf}
 use Rattle.panel.specs.Step.{stepOf}
 use Rattle.logrun.specs.declared.Progress.{Progress}

@@ -5,9 +5,9 @@ use mathlib.Core.List.{List, [], _∷_, _++_}
 use Prim.Native.Nat.{ℕ, _≤_}
 use lib.Dec.{eqb}
 use lib.IntN.{ℤ}
-use Rattle.commands.specs.declared.state.State.{State}
-use Rattle.commands.specs.State.{stateOf}
-use Rattle.commands.specs.Valid.{Good}
+use Rattle.state.specs.declared.State.{State}
+use Rattle.state.specs.State.{stateOf}
+use Rattle.state.specs.Valid.{Good}
 use Rattle.decimal.specs.Decimal.{largest}
 use Rattle.events.specs.declared.Pending.{Pending}
 use Rattle.events.specs.declared.Taken.{Taken}

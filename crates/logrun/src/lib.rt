@@ -1,12 +1,12 @@
 // A log run to its lines, a piece at a time: the table from its bytes, the events stepped, their lines put into a lent buffer.
-// Uses `integers` for signed words, `events` for the log's words, `panel` for the steps on the state of `commands`, and `lines` for what is printed.
-use commands::state::Live;
-use commands::state::State;
+// Uses `integers` for signed words, `events` for the log's words, `panel` for the steps on the values of `state`, and `lines` for what is printed.
 use events::Event;
 use events::Pending;
 use events::Taken;
 use integers::twos_complement;
 use panel::Loaded;
+use state::Live;
+use state::State;
 ghost use mathlib.Core.Path.{_≡_};
 ghost use Prim.Native.Nat.{_+_, _*_, _≤_};
 ghost use lib.Dec.{eqb};
@@ -17,7 +17,7 @@ ghost use Rattle.lines.specs.Lines.{endLine};
 ghost use Rattle.lines.specs.LineLaws.{longest};
 ghost use Rattle.text.specs.Put.{Put};
 ghost use Rattle.panel.specs.Load.{loadedOf};
-ghost use Rattle.commands.specs.Valid.{Good};
+ghost use Rattle.state.specs.Valid.{Good};
 ghost use Rattle.logrun.specs.Input.{tableBytes, tableOf};
 ghost use Rattle.logrun.specs.Output.{openingText};
 ghost use Rattle.logrun.specs.Progress.{startOf, courseOf, progressOf, afterTaken, textTaken, wordFed, wordText, wordsFed, wordsText, finishedOf, Ready};

@@ -42,6 +42,8 @@ pub struct Measured {
 
 // How a position becomes a result: the numbers as the table has them.
 pub struct Scaling {
+    // 1 where the encoder counts the other way.
+    pub direction: u32,
     // O, subtracted from the position.
     pub offset: i32,
     // Round loop R, 0 off.

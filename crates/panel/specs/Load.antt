@@ -4,7 +4,7 @@ use mathlib.Core.List.{List}
 use lib.IntN.{ℤ}
 use Rattle.parameters.specs.Load.{loadOf}
 use Rattle.panel.specs.declared.Loaded.{Loaded}
-use Rattle.commands.specs.State.{freshOf}
+use Rattle.state.specs.State.{freshOf}
 
 unfoldable pub loadedOf : List ℤ → Loaded
 loadedOf ws = record { number = loadOf ws .number; slot = loadOf ws .slot; state = freshOf (loadOf ws .table) }

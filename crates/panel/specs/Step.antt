@@ -1,24 +1,23 @@
 -- A step: an event and a state give the answer, with the new state in it; a refused event changes nothing.
 -- Paper 01, "Events and inputs", "Switching" and "Where each check sits", event. Assumes nothing.
-use mathlib.Core.Bool.{Bool, cond, _&&_, _||_}
+use mathlib.Core.Bool.{Bool, cond}
 use mathlib.Core.List.{List}
 use Prim.Native.Nat.{ℕ}
-use lib.Dec.{eqb, leb}
+use lib.Dec.{leb}
 use lib.IntN.{ℤ}
-use Rattle.commands.specs.declared.state.Outcome.{Outcome}
-use Rattle.commands.specs.declared.state.State.{State}
-use Rattle.commands.specs.Commands.{rereadOf, highAt, commandsOf}
-use Rattle.commands.specs.State.{stateOf, withLevels, withTelegram, withShown, withSwitches}
+use Rattle.state.specs.declared.Outcome.{Outcome}
+use Rattle.state.specs.declared.State.{State}
+use Rattle.state.specs.State.{stateOf, withLevels, withShown, withSwitches, receivedOf}
+use Rattle.inputs.specs.Levels.{commandsOf}
+use Rattle.inputs.specs.Freeze.{frozen}
 use Rattle.events.specs.declared.Event.{Event}
 use Rattle.events.specs.declared.Event.the-variants.{Telegram, Levels, Tick}
-use Rattle.parameters.specs.Slots.{action, config}
 use Rattle.reading.specs.Reading.{acceptsOf}
 use Rattle.settings.specs.Settings.{preselectionsOf}
 use Rattle.switching.specs.declared.Switch.{Switch}
 use Rattle.switching.specs.Outputs.{outputsOf}
 use Rattle.switching.specs.Switching.{allSwitched, allTicked}
 use Rattle.panel.specs.declared.Answer.{Answer}
-use Rattle.panel.specs.declared.Begun.{Begun}
 
 -- ---- the answer
 
@@ -52,13 +51,6 @@ switchesAfter seen t r ss = cond seen (allSwitched (preselectionsOf t) r ss) ss
 unfoldable pub switchedOf : State → State
 switchedOf s = withSwitches s (switchesAfter (s .live .seen) (s .table) (s .live .reading .result) (s .live .switches))
 
--- "Freeze lasts while, after the event, any input set to it is low (config 0) or high (config 1)"
-unfoldable pub freezes : List ℤ → ℕ → ℕ → Bool
-freezes t l i = eqb (action t i) 2 && cond (highAt l i) (eqb (config t i) 1) (eqb (config t i) 0)
-
-unfoldable pub frozen : List ℤ → ℕ → Bool
-frozen t l = freezes t l 0 || (freezes t l 1 || freezes t l 2)
-
 -- "It holds the shown value as it was before the event and nothing else. Without freeze, shown equals result"
 unfoldable pub shownAfter : List ℤ → ℕ → ℤ → ℤ → ℤ
 shownAfter t l shown result = cond (frozen t l) shown result
@@ -73,7 +65,7 @@ settledOf s = displayedOf (switchedOf s)
 
 -- 11: a telegram bit above N is set
 unfoldable pub onTelegram : State → ℕ → Answer
-onTelegram s w = cond (acceptsOf (s .table) w) (answerOf (settledOf (rereadOf (withTelegram s w))) 0) (answerOf s 11)
+onTelegram s w = cond (acceptsOf (s .table) w) (answerOf (settledOf (receivedOf s w)) 0) (answerOf s 11)
 
 -- 10: levels above 7
 unfoldable pub onLevels : State → ℕ → Answer
@@ -87,7 +79,3 @@ unfoldable pub stepOf : State → Event → Answer
 stepOf s (Telegram w) = onTelegram s w
 stepOf s (Levels l) = onLevels s l
 stepOf s (Tick ms) = onTick s ms
-
--- the answer that an event comes to, from what it does before switching and display
-abbrev pub answerAfter : List ℤ → Begun → Answer
-answerAfter t b = cond (b .settles) (answerOf (settledOf (stateOf t (b .live))) (b .note)) (answerOf (stateOf t (b .live)) (b .note))

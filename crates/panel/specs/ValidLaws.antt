@@ -3,11 +3,12 @@
 use mathlib.Core.Bool.{Bool, true, false, cond, not}
 use Prim.Native.Nat.{ℕ}
 use lib.Dec.{T, leb}
-use Rattle.commands.specs.declared.state.State.{State}
-use Rattle.commands.specs.CommandLaws.{good-reread, good-commands}
-use Rattle.commands.specs.Commands.{rereadOf, commandsOf}
-use Rattle.commands.specs.State.{withLevels, withTelegram, withSwitches}
-use Rattle.commands.specs.Valid.{Good}
+use Rattle.inputs.specs.CommandLaws.{good-commands}
+use Rattle.inputs.specs.Levels.{commandsOf}
+use Rattle.state.specs.declared.State.{State}
+use Rattle.state.specs.State.{withLevels, withSwitches, receivedOf}
+use Rattle.state.specs.Valid.{Good}
+use Rattle.state.specs.ValidLaws.{good-received}
 use Rattle.events.specs.declared.Event.{Event}
 use Rattle.events.specs.declared.Event.the-variants.{Telegram, Levels, Tick}
 use Rattle.integers.specs.Choice.{by-test}
@@ -20,7 +21,7 @@ use Rattle.panel.specs.Step.{answerOf, switchesAfter, switchedOf, displa
 -- an event is refused, or is a telegram, levels or a tick
 pub by-step : (s : State) (e : Event) (Q : State → Type 0) →
     Q s →
-    ((w : ℕ) → Q (settledOf (rereadOf (withTelegram s w)))) →
+    ((w : ℕ) → Q (settledOf (receivedOf s w))) →
     ((l : ℕ) → Q (settledOf (withLevels (commandsOf s l .state) l))) →
     ((ms : ℕ) → Q (withSwitches s (allTicked ms (s .live .switches)))) →
     Q (stepOf s e .state)
@@ -53,6 +54,6 @@ good-settled s g = let h = good-switched s g in record { table = h .table; resul
 pub good-step : {s : State} → Good s → (e : Event) → Good (stepOf s e .state)
 good-step {s} g e =
     by-step s e Good g
-    (λ w. good-settled (rereadOf (withTelegram s w)) (good-reread (withTelegram s w) (g .table)))
+    (λ w. good-settled (receivedOf s w) (good-received s w (g .table)))
     (λ l. let h = good-commands s l g in good-settled (withLevels (commandsOf s l .state) l) (record { table = h .table; result = h .result }))
     (λ ms. record { table = g .table; result = g .result })

@@ -1,25 +1,25 @@
-// The panel: the step that an event takes its state through, and loading.
-// Uses `commands` for the state and the actions of the inputs, `events`, `parameters`, `settings`, `reading` and `switching`,
-// and the error and drive enums of `measurement` and `analog`.
+// The front door: load, step and advance, the outputs, and a telegram diagnosed and built. Whoever drives a panel calls this crate.
+// Uses `events`, `state`, `inputs` for the commands and the freeze, `reading` for what is accepted, `settings`, `switching` and `ssi`, and the error and drive enums of
+// `measurement` and `analog`.
 use analog::Drive;
-use commands::state;
-use commands::state::Live;
-use commands::state::Outcome;
-use commands::state::State;
 use events::Event;
 use measurement::Error;
-use parameters::number;
-use parameters::slots;
+use ssi::Built;
+use ssi::Diagnosis;
+use state::Live;
+use state::Outcome;
+use state::State;
 use switching::Switch;
 ghost use mathlib.Core.Path.{_≡_};
-ghost use Prim.Native.Nat.{_<_};
 ghost use mathlib.Core.Bool.{false};
-ghost use Rattle.commands.specs.State.{stateOf, setSwitches};
-ghost use Rattle.commands.specs.Valid.{Good};
+ghost use Rattle.state.specs.State.{stateOf, setSwitches};
+ghost use Rattle.state.specs.Valid.{Good};
 ghost use Rattle.parameters.specs.Valid.{Valid};
 ghost use Rattle.switching.specs.Switching.{allTicked};
 ghost use Rattle.panel.specs.Load.{loadedOf};
-ghost use Rattle.panel.specs.Step.{answerOf, answerBy, outputsIn, switchesAfter, freezes, frozen, shownAfter, settledOf, onTelegram, onLevels, stepOf, answerAfter};
+ghost use Rattle.panel.specs.Step.{answerOf, answerBy, outputsIn, switchesAfter, shownAfter, settledOf, onTelegram, onLevels, stepOf};
+ghost use Rattle.panel.specs.StepWay.{answerAfter};
+ghost use Rattle.panel.specs.Telegrams.{diagnosedOf, builtBy};
 
 // The answer to an event.
 pub struct Answer {
@@ -75,39 +75,11 @@ fn switches_after(seen: bool, t: &[i32; 104], result: i32, switches: [Switch; 4]
     switching::switch_all(settings::preselections(t), result, switches)
 }
 
-// Whether input i + 1 holds the shown value.
-fn holds(t: &[i32; 104], levels: u8, i: usize) -> bool
-    requires { ⌜ i < 3 ⌝ }
-    ensures { λ r. ⌜ r ≡ freezes (now (t .entry)) levels i ⌝ }
-{
-    if number(t, slots::ACTION + slots::INPUT_STRIDE * i) != 2 {
-        return false;
-    }
-    let config = number(t, slots::CONFIG + slots::INPUT_STRIDE * i);
-    if commands::high_at(levels, i) {
-        return config == 1;
-    }
-    config == 0
-}
-
-// Whether any input holds the shown value.
-fn is_frozen(t: &[i32; 104], levels: u8) -> bool
-    ensures { λ r. ⌜ r ≡ frozen (now (t .entry)) levels ⌝ }
-{
-    if holds(t, levels, 0) {
-        return true;
-    }
-    if holds(t, levels, 1) {
-        return true;
-    }
-    holds(t, levels, 2)
-}
-
 // The shown value after an event: the result, or held.
 fn shown_after(t: &[i32; 104], levels: u8, shown: i32, result: i32) -> i32
     ensures { λ r. ⌜ r ≡ shownAfter (now (t .entry)) levels shown result ⌝ }
 {
-    if is_frozen(t, levels) {
+    if inputs::is_frozen(t, levels) {
         return shown;
     }
     result
@@ -133,9 +105,7 @@ fn on_telegram(t: &[i32; 104], l: Live, telegram: u32) -> Begun
             settles: false,
         };
     }
-    let read = reading::read(t, telegram);
-    let extremes = commands::widened(l.extremes, read);
-    let next = state::received(l, telegram, read, extremes);
+    let next = state::received(t, l, telegram);
     Begun {
         live: next,
         note: 0,
@@ -155,7 +125,7 @@ fn on_levels(t: &mut [i32; 104], l: Live, levels: u8) -> Begun
             settles: false,
         };
     }
-    let x = commands::act(t, l, levels);
+    let x = inputs::act(t, l, levels);
     let n = x.live;
     let next = state::with_levels(n, levels);
     Begun {
@@ -258,4 +228,20 @@ pub fn load(words: &[i32]) -> Loaded
         slot: l.slot,
         state: s,
     }
+}
+
+// The diagnosis of a telegram under a table: turns and place within the turn, or 11.
+pub fn diagnose(t: &[i32; 104], telegram: u32) -> Diagnosis
+    requires { ⌜ Valid (now t) ⌝ }
+    ensures { λ r. ⌜ r ≡ diagnosedOf (now (t .entry)) telegram ⌝ }
+{
+    ssi::diagnose(settings::layout(t), settings::bits_per_turn(t), telegram)
+}
+
+// The telegram of a position under a table, its error bit at the error level exactly when the error is asked for; or 17 or 18.
+pub fn build(t: &[i32; 104], position: u32, error: bool) -> Built
+    requires { ⌜ Valid (now t) ⌝ }
+    ensures { λ r. ⌜ r ≡ builtBy (now (t .entry)) position error ⌝ }
+{
+    ssi::build(settings::layout(t), position, error)
 }

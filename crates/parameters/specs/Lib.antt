@@ -7,5 +7,7 @@ pub mod RowLaws
 pub mod SearchLaws
 pub mod LoadLaws
 pub mod Valid
-pub mod Ranges
-pub mod Stores
+pub mod ValidLaws
+pub mod RangeLaws
+pub mod Alike
+pub mod StoreLaws

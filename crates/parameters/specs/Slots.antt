@@ -1,6 +1,6 @@
 -- What each of the 104 slots of a table means. Other definitions speak of these names; the cases of `runs` set slots by number, as paper 01 does.
 -- Condenses paper 01, "The parameter table". Preselections are k = 0..3, inputs i = 0..2, points j = 0..23.
-use mathlib.Core.List.{List}
+use mathlib.Core.List.{List, [], _∷_}
 use Prim.Native.Nat.{ℕ, _+_, _*_}
 use lib.IntN.{ℤ, pos}
 use lib.ListN.{getD, set}
@@ -119,9 +119,30 @@ pointY t j = wordAt t (57 + 2 * j)
 abbrev pub withWord : List ℤ → ℕ → ℤ → List ℤ
 withWord t slot x = set t slot x
 
--- what a reset and a teach store
+-- what a reset and a teach store: the offset, and preselection k + 1
 abbrev pub withOffset : List ℤ → ℤ → List ℤ
 withOffset t x = withWord t offsetSlot x
 
 abbrev pub withPreselection : List ℤ → ℕ → ℤ → List ℤ
 withPreselection t k x = withWord t (preselectionSlot k) x
+
+-- ---- the slots of each setting, those that a reset or a teach stores apart
+
+abbrev pub layoutSlots : List ℕ
+layoutSlots = 0 ∷ 2 ∷ 3 ∷ 4 ∷ 8 ∷ 9 ∷ []
+
+abbrev pub scalingSlots : List ℕ
+scalingSlots = 6 ∷ 7 ∷ 10 ∷ 11 ∷ 12 ∷ 13 ∷ 55 ∷ []
+
+abbrev pub spanSlots : List ℕ
+spanSlots = 14 ∷ 15 ∷ 16 ∷ []
+
+abbrev pub preselectionSlots : ℕ → List ℕ
+preselectionSlots k = (18 + 8 * k) ∷ (19 + 8 * k) ∷ (20 + 8 * k) ∷ (21 + 8 * k) ∷ (22 + 8 * k) ∷ (23 + 8 * k) ∷ (24 + 8 * k) ∷ []
+
+abbrev pub inputSlots : ℕ → List ℕ
+inputSlots i = (49 + 2 * i) ∷ (50 + 2 * i) ∷ []
+
+-- the words of the points stand from this slot on
+abbrev pub firstPointSlot : ℕ
+firstPointSlot = 56

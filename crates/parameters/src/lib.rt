@@ -4,7 +4,7 @@ ghost use mathlib.Core.Path.{_≡_};
 ghost use Prim.Native.Nat.{_<_};
 ghost use lib.ListN.{length};
 ghost use Rattle.integers.specs.Int.{P};
-ghost use Rattle.parameters.specs.Slots.{wordAt, natAt, withWord};
+ghost use Rattle.parameters.specs.Slots.{wordAt, natAt, withWord, withOffset, withPreselection};
 ghost use Rattle.parameters.specs.Load.{refusal, loadOf};
 
 pub mod checks; // checks.rt: checks 3 to 9
@@ -46,6 +46,21 @@ pub fn changed(t: [i32; 104], slot: usize, x: i32) -> [i32; 104]
         next[slot] = x;
     }
     next
+}
+
+// Stores the offset.
+pub fn store_offset(t: &mut [i32; 104], x: i32)
+    ensures { λ _. ⌜ now (t .exit) ≡ withOffset (now (t .entry)) x ⌝ }
+{
+    t[slots::OFFSET] = x;
+}
+
+// Stores preselection k + 1.
+pub fn store_preselection(t: &mut [i32; 104], k: usize, x: i32)
+    requires { ⌜ k < 4 ⌝ }
+    ensures { λ _. ⌜ now (t .exit) ≡ withPreselection (now (t .entry)) k x ⌝ }
+{
+    t[slots::PRESELECTION + slots::PRESELECTION_STRIDE * k] = x;
 }
 
 // What loading answers.

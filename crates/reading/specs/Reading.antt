@@ -1,4 +1,5 @@
--- One reading under a table: the telegram's position after direction becomes a result or an error, and the result drives the analog line.
+-- One reading under a table: a telegram gives the position after direction and whether its error bit reports; these become a result or an error, and the result drives
+-- the analog line.
 -- Paper 01, "From telegram to result" and "Analog value", held together. Assumes nothing.
 use mathlib.Core.Bool.{Bool, cond}
 use mathlib.Core.List.{List}
@@ -13,9 +14,11 @@ use Rattle.integers.specs.Fraction.{Frac, Ratio}
 use Rattle.measurement.specs.declared.Measured.{Measured}
 use Rattle.measurement.specs.Curve.{steepest}
 use Rattle.measurement.specs.Measure.{errorNumber, directedOf, measuredOf, usedPoints, exactCurve}
-use Rattle.parameters.specs.Slots as slot
-use Rattle.settings.specs.Settings.{layoutOf, scalingOf, pointsOf}
+use Rattle.parameters.specs.Slots.{direction, linearization}
+use Rattle.settings.specs.declared.Span.{Span}
+use Rattle.settings.specs.Settings.{layoutOf, scalingOf, pointsOf, spanOf}
 use Rattle.ssi.specs.Telegram.{accepted, errorReported, positionOf, widthOf}
+use Rattle.reading.specs.declared.Basis.{Basis}
 use Rattle.reading.specs.declared.Reading.{Reading}
 
 -- Where each check sits, 11: accepted unless a bit above N is set
@@ -24,26 +27,39 @@ acceptsOf t w = accepted (layoutOf t) w
 
 -- step 1: "p after direction"
 unfoldable pub directedAt : List ℤ → ℕ → ℕ
-directedAt t w = directedOf (slot.direction t) (widthOf (layoutOf t)) (positionOf (layoutOf t) w)
+directedAt t w = directedOf (direction t) (widthOf (layoutOf t)) (positionOf (layoutOf t) w)
+
+-- what a telegram's result starts from
+unfoldable pub basisOf : List ℤ → ℕ → Basis
+basisOf t w = record { directed = directedAt t w; reported = errorReported (layoutOf t) w }
 
 -- steps 2 to 5: the result and the error
-unfoldable pub measuredAt : List ℤ → ℕ → Measured
-measuredAt t w = measuredOf (scalingOf t) (pointsOf t) (directedAt t w) (errorReported (layoutOf t) w)
+unfoldable pub measuredAt : List ℤ → Basis → Measured
+measuredAt t b = measuredOf (scalingOf t) (pointsOf t) (b .directed) (b .reported)
 
--- the code of the result in the format and between the ends of the table
-unfoldable pub codeAt : List ℤ → Measured → ℤ
-codeAt t m = codeOf (slot.analogFormat t) (slot.analogStart t) (slot.analogEnd t) (m .result)
+-- the code of the result in the format and between the ends of a span
+unfoldable pub codeAt : Span → Measured → ℤ
+codeAt a m = codeOf (a .format) (a .start) (a .end) (m .result)
 
 -- step 5, "under an error the analog drive is off"; else the drive of the code
-unfoldable pub driveAt : List ℤ → Measured → Drive
-driveAt t m = cond (eqb (errorNumber (m .error)) 0) (driveOf (slot.analogFormat t) (codeAt t m)) Off
+unfoldable pub driveAt : Span → Measured → Drive
+driveAt a m = cond (eqb (errorNumber (m .error)) 0) (driveOf (a .format) (codeAt a m)) Off
 
-unfoldable pub readingOf : List ℤ → ℕ → Reading
-readingOf t w = record { result = measuredAt t w .result; error = measuredAt t w .error; code = codeAt t (measuredAt t w); drive = driveAt t (measuredAt t w) }
+unfoldable pub readingOf : List ℤ → Basis → Reading
+readingOf t b =
+    record {
+      result = measuredAt t b .result;
+      error = measuredAt t b .error;
+      code = codeAt (spanOf t) (measuredAt t b);
+      drive = driveAt (spanOf t) (measuredAt t b);
+    }
 
--- L(E), and S, of a telegram
+-- L(E) of a position after direction, and of a telegram; and S
+unfoldable pub curveFrom : List ℤ → ℕ → Frac
+curveFrom t p = exactCurve (scalingOf t) (pointsOf t) p
+
 unfoldable pub curveAt : List ℤ → ℕ → Frac
-curveAt t w = exactCurve (scalingOf t) (pointsOf t) (directedAt t w)
+curveAt t w = curveFrom t (directedAt t w)
 
 unfoldable pub slopeAt : List ℤ → Ratio
-slopeAt t = steepest (slot.linearization t) (usedPoints (scalingOf t) (pointsOf t))
+slopeAt t = steepest (linearization t) (usedPoints (scalingOf t) (pointsOf t))

@@ -1,16 +1,20 @@
-// One reading: from a table and a telegram to the result, the error, the analog code and the drive.
-// Uses `settings` and the parts that it hands the settings to, `ssi`, `measurement` and `analog`, and `parameters` for the direction and the analog slots.
+// One reading: a telegram gives what a result starts from, and that gives the result, the error, the analog code and the drive.
+// Uses `settings` for the table, and `ssi`, `measurement` and `analog`, which it hands the settings to.
 ghost use mathlib.Core.Path.{_≡_};
-ghost use lib.ListN.{length};
 ghost use Rattle.parameters.specs.Valid.{Valid};
-ghost use Rattle.settings.specs.Settings.{pointsOf};
-ghost use Rattle.reading.specs.Reading.{acceptsOf, directedAt, measuredAt, codeAt, driveAt, readingOf};
+ghost use Rattle.reading.specs.Reading.{acceptsOf, directedAt, basisOf, measuredAt, codeAt, driveAt, readingOf};
 use analog::Drive;
 use measurement::Error;
 use measurement::Measured;
-use parameters::number;
-use parameters::slots;
-use parameters::word;
+use settings::Span;
+
+// What a result starts from.
+pub struct Basis {
+    // The position after direction.
+    pub directed: u32,
+    // Whether the telegram's error bit stands at its error level.
+    pub reported: bool,
+}
 
 // What a telegram reads as.
 pub struct Reading {
@@ -32,65 +36,68 @@ pub fn accepts(t: &[i32; 104], telegram: u32) -> bool
 }
 
 // The position of a telegram after direction.
-pub fn directed(t: &[i32; 104], telegram: u32) -> u32
+fn directed(t: &[i32; 104], telegram: u32) -> u32
     requires { ⌜ Valid (now t) ⌝ }
     ensures { λ r. ⌜ r ≡ directedAt (now (t .entry)) telegram ⌝ }
 {
     let l = settings::layout(t);
     let p = ssi::position(l, telegram);
-    measurement::directed(number(t, slots::DIRECTION), ssi::width(l), p)
+    let s = settings::scaling(t);
+    measurement::directed(s.direction, ssi::width(l), p)
 }
 
-// The words of the control points.
-fn points(words: &[i32]) -> &[i32]
-    requires { ⌜ length (now words) ≡ 104 ⌝ }
-    ensures { λ r. ⌜ now r ≡ pointsOf (now (words .entry)) ⌝ }
-{
-    &words[slots::POINT_X..]
-}
-
-// The result and the error of a telegram.
-pub fn measured(t: &[i32; 104], telegram: u32) -> Measured
+// What a telegram's result starts from.
+pub fn basis_of(t: &[i32; 104], telegram: u32) -> Basis
     requires { ⌜ Valid (now t) ⌝ }
-    ensures { λ r. ⌜ r ≡ measuredAt (now (t .entry)) telegram ⌝ }
+    ensures { λ r. ⌜ r ≡ basisOf (now (t .entry)) telegram ⌝ }
 {
-    let p = directed(t, telegram);
-    let reported = ssi::error_reported(settings::layout(t), telegram);
-    measurement::measure(settings::scaling(t), points(t), p, reported)
+    Basis {
+        directed: directed(t, telegram),
+        reported: ssi::error_reported(settings::layout(t), telegram),
+    }
 }
 
-// The analog code of a measured result.
-fn code_of(t: &[i32; 104], m: Measured) -> i32
-    ensures { λ r. ⌜ r ≡ codeAt (now (t .entry)) m ⌝ }
+// The result and the error.
+fn measured(t: &[i32; 104], b: Basis) -> Measured
+    requires { ⌜ Valid (now t) ⌝ }
+    ensures { λ r. ⌜ r ≡ measuredAt (now (t .entry)) b ⌝ }
 {
-    analog::code(
-        number(t, slots::ANALOG_FORMAT),
-        word(t, slots::ANALOG_START),
-        word(t, slots::ANALOG_END),
-        m.result,
+    measurement::measure(
+        settings::scaling(t),
+        settings::points(t),
+        b.directed,
+        b.reported,
     )
 }
 
+// The analog code of a measured result.
+fn code_of(a: Span, m: Measured) -> i32
+    ensures { λ r. ⌜ r ≡ codeAt a m ⌝ }
+{
+    analog::code(a.format, a.start, a.end, m.result)
+}
+
 // The drive of a measured result with its code: off under an error.
-fn driven(t: &[i32; 104], m: Measured, code: i32) -> Drive
-    requires { ⌜ code ≡ codeAt (now t) m ⌝ }
-    ensures { λ r. ⌜ r ≡ driveAt (now (t .entry)) m ⌝ }
+fn driven(a: Span, m: Measured, code: i32) -> Drive
+    requires { ⌜ code ≡ codeAt a m ⌝ }
+    ensures { λ r. ⌜ r ≡ driveAt a m ⌝ }
 {
     let e = m.error;
     if measurement::error_number(e) == 0 {
-        return analog::drive_of(number(t, slots::ANALOG_FORMAT), code);
+        return analog::drive_of(a.format, code);
     }
     Drive::Off
 }
 
-// Result, error, code and drive of a telegram.
-pub fn read(t: &[i32; 104], telegram: u32) -> Reading
+// Result, error, code and drive of what a result starts from.
+pub fn read(t: &[i32; 104], b: Basis) -> Reading
     requires { ⌜ Valid (now t) ⌝ }
-    ensures { λ r. ⌜ r ≡ readingOf (now (t .entry)) telegram ⌝ }
+    ensures { λ r. ⌜ r ≡ readingOf (now (t .entry)) b ⌝ }
 {
-    let m = measured(t, telegram);
-    let code = code_of(t, m);
-    let drive = driven(t, m, code);
+    let m = measured(t, b);
+    let a = settings::analog_span(t);
+    let code = code_of(a, m);
+    let drive = driven(a, m, code);
     let error = m.error;
     Reading {
         result: m.result,

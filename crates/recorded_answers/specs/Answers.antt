@@ -7,8 +7,8 @@ use lib.Dec.{eqb}
 use lib.IntN.{ℤ}
 use lib.ListN.{take, drop}
 use mir.Val.{boolByte}
-use Rattle.commands.specs.declared.state.Extremes.{Extremes}
-use Rattle.commands.specs.declared.state.State.{State}
+use Rattle.state.specs.declared.Extremes.{Extremes}
+use Rattle.state.specs.declared.State.{State}
 use Rattle.events.specs.ByteLaws.{wordFrom}
 use Rattle.events.specs.Bytes.{wordsIn}
 use Rattle.integers.specs.TwosComplement.{signedOf}

@@ -1,12 +1,12 @@
 // Least and greatest after the log of a case. Uses `logrun` to run the log, `commands` for the state, `integers` for signed words, and `parameters` to compare them.
 use crate::case;
-use commands::state::Extremes;
-use commands::state::State;
 use integers::twos_complement;
 use parameters::checks::same;
+use state::Extremes;
+use state::State;
 ghost use mathlib.Core.Path.{_≡_};
 ghost use lib.ListN.{length};
-ghost use Rattle.commands.specs.Valid.{Good};
+ghost use Rattle.state.specs.Valid.{Good};
 ghost use Rattle.events.specs.Bytes.{wordsIn};
 ghost use Rattle.logrun.specs.Progress.{startOf, wordsFed};
 ghost use Rattle.recorded_answers.specs.Answers.{logIn, extremesAs, loggedAs};

@@ -6,9 +6,9 @@ use mathlib.Core.List.{List, []}
 use Prim.Native.Nat.{ℕ, _/_}
 use lib.Dec.{eqb}
 use lib.IntN.{ℤ}
-use Rattle.commands.specs.declared.state.Live.{Live}
-use Rattle.commands.specs.declared.state.State.{State}
-use Rattle.commands.specs.State.{stateOf, freshOf}
+use Rattle.state.specs.declared.Live.{Live}
+use Rattle.state.specs.declared.State.{State}
+use Rattle.state.specs.State.{stateOf, freshOf}
 use Rattle.modbus.specs.declared.Request.{Request}
 use Rattle.modbus.specs.declared.Request.the-variants.{Broken, Ignored, Exception, Read, Write}
 use Rattle.modbus.specs.declared.replies.Reply.{Reply}

@@ -9,11 +9,11 @@ use lib.Dec.{eqb}
 use lib.IntN.{ℤ, pos}
 use lib.ListN.{length, getD, set, length-set}
 use lib.Signed.{mag}
-use Rattle.commands.specs.declared.state.State.{State}
-use Rattle.commands.specs.Commands.{rereadOf, resetOf, teachOf}
-use Rattle.commands.specs.CommandLaws.{good-fresh}
-use Rattle.commands.specs.State.{stateOf, freshOf}
-use Rattle.commands.specs.Valid.{Good}
+use Rattle.state.specs.declared.State.{State}
+use Rattle.inputs.specs.Commands.{resetOf, teachOf}
+use Rattle.state.specs.ValidLaws.{good-fresh}
+use Rattle.state.specs.State.{stateOf, freshOf, rereadOf}
+use Rattle.state.specs.Valid.{Good}
 use Rattle.integers.specs.Choice.{by-test, is-true}
 use Rattle.modbus.specs.declared.Request.{Request}
 use Rattle.modbus.specs.declared.Request.the-variants.{Broken, Ignored, Exception, Read, Write}
@@ -30,9 +30,9 @@ use Rattle.panel.specs.Load.{loadedOf}
 use Rattle.parameters.specs.Load.{loadRefusal}
 use Rattle.parameters.specs.LoadLaws.{answer-number}
 use Rattle.parameters.specs.Slots.{wordAt, offsetSlot, preselectionSlot}
-use Rattle.parameters.specs.Stores.{word-stored, offset-stored, preselection-stored}
-use Rattle.parameters.specs.Valid.{Valid, loads}
-use Rattle.reading.specs.Reading.{directedAt}
+use Rattle.parameters.specs.StoreLaws.{word-stored, offset-stored, preselection-stored}
+use Rattle.parameters.specs.Valid.{Valid}
+use Rattle.parameters.specs.ValidLaws.{loads}
 use Rattle.registers.specs.Serve.{Served, slotIn, wordIn, sent, unchanged, writtenTable, carriedOut, writtenOf, requestOf, servedOf}
 
 -- ---- every frame
@@ -207,7 +207,7 @@ shown-read node s o = rw (read-asked node shownRegister o refl)
 
 -- THE TABLE READ IS THE ONE IN FORCE: after a reset the offset's slot is read as p after direction, after a teach the preselection's as the result
 pub reset-read : (node : ℕ) (s : State) → (node ≡ 0 → ⊥) → Valid (s .table) →
-    servedOf node (resetOf s) (readFrame node (2 * offsetSlot)) .reply ≡ packed (readReply node (pos (directedAt (s .table) (s .live .telegram))))
+    servedOf node (resetOf s) (readFrame node (2 * offsetSlot)) .reply ≡ packed (readReply node (pos (s .live .basis .directed)))
 unfolding resetOf rereadOf
 reset-read node s o v =
     ap Served.reply (slot-read node (resetOf s) offsetSlot (omega arith) o) ∙ ap (λ (y : ℤ). packed (readReply node y)) (offset-stored _ v)

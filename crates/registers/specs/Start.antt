@@ -4,7 +4,7 @@ use mathlib.Core.List.{List}
 use Prim.Native.Nat.{ℕ}
 use lib.Dec.{leb}
 use lib.IntN.{ℤ}
-use Rattle.commands.specs.State.{freshOf}
+use Rattle.state.specs.State.{freshOf}
 use Rattle.panel.specs.declared.Loaded.{Loaded}
 use Rattle.panel.specs.Load.{loadedOf}
 use Rattle.parameters.specs.Rows.{defaultTable}

@@ -7,16 +7,16 @@ use native.Mathlib.Omega.{arith}
 use borrow.Author.Tests.{leb-true}
 use lib.Dec.{leb}
 use lib.IntN.{ℤ}
-use Rattle.commands.specs.CommandLaws.{good-fresh}
-use Rattle.commands.specs.State.{freshOf}
-use Rattle.commands.specs.Valid.{Good}
+use Rattle.state.specs.ValidLaws.{good-fresh}
+use Rattle.state.specs.State.{freshOf}
+use Rattle.state.specs.Valid.{Good}
 use Rattle.integers.specs.Choice.{by-test, is-true}
 use Rattle.integers.specs.TestLaws.{and-both}
 use Rattle.panel.specs.declared.Loaded.{Loaded}
 use Rattle.panel.specs.Load.{loadedOf}
 use Rattle.parameters.specs.Load.{loadRefusal}
 use Rattle.parameters.specs.LoadLaws.{answer-number, answer-table, slot-small}
-use Rattle.parameters.specs.Valid.{load-valid, defaults-valid}
+use Rattle.parameters.specs.ValidLaws.{load-valid, defaults-valid}
 use Rattle.registers.specs.Start.{isNode, startedOf}
 
 pub start-slot : (node : ℕ) (t : List ℤ) → startedOf node t .slot ≤ 104

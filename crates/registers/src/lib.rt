@@ -1,17 +1,16 @@
 // The panel as a Modbus slave: a start with a node address, and the answer to one frame.
-// Uses `modbus` for the bytes, `panel` to load, `parameters` for the table, and the state of `commands`.
-use commands::state;
-use commands::state::Live;
+// Uses `modbus` for the bytes, `panel` to load, `parameters` for the table, and `state`.
 use modbus::Demand;
 use modbus::Request;
 use modbus::replies;
 use modbus::replies::Reply;
 use panel::Loaded;
+use state::Live;
 ghost use mathlib.Core.Path.{_≡_};
 ghost use mathlib.Core.List.{[]};
 ghost use Prim.Native.Nat.{_≤_};
-ghost use Rattle.commands.specs.State.{stateOf};
-ghost use Rattle.commands.specs.Valid.{Good};
+ghost use Rattle.state.specs.State.{stateOf};
+ghost use Rattle.state.specs.Valid.{Good};
 ghost use Rattle.modbus.specs.Replies.{packed, longestReply};
 ghost use Rattle.parameters.specs.Valid.{Valid};
 ghost use Rattle.registers.specs.Start.{isNode, startedOf};

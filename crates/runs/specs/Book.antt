@@ -5,13 +5,15 @@ use mathlib.Core.List.{List, [], _∷_}
 use Prim.Native.Nat.{ℕ}
 use lib.Dec.{eqb, leb}
 use lib.IntN.{ℤ, pos}
+use Rattle.inputs.specs.Commands.{resetRefusal}
+use Rattle.inputs.specs.CommandLaws.{isReset}
+use Rattle.inputs.specs.Levels.{highAt, actsOn}
 use Rattle.events.specs.declared.Event.{Event}
 use Rattle.events.specs.declared.Event.the-variants.{Telegram, Levels, Tick}
-use Rattle.parameters.specs.Slots.{offset, action, config}
+use Rattle.parameters.specs.Slots.{offset}
 use Rattle.reading.specs.Reading.{acceptsOf, directedAt}
-use Rattle.settings.specs.Settings.{layoutOf}
+use Rattle.settings.specs.Settings.{layoutOf, inputAt}
 use Rattle.ssi.specs.Telegram.{errorReported}
-use Rattle.commands.specs.Commands.{resetRefusal, highAt, actsOn}
 
 pub record Book : Type 0 where
   pub levels : ℕ
@@ -40,7 +42,7 @@ movesTo b o = record { levels = b .levels; seen = b .seen; telegram = b .telegra
 
 -- "each edge that asks for a reset": action 1
 unfoldable pub asksReset : List ℤ → Book → ℕ → ℕ → Bool
-asksReset t b l i = actsOn (config t i) (highAt (b .levels) i) (highAt l i) && eqb (action t i) 1
+asksReset t b l i = actsOn (inputAt t i .config) (highAt (b .levels) i) (highAt l i) && isReset (inputAt t i .action)
 
 -- 13 or 12 for its telegram, else 0. Error 3 is told by the telegram alone: its error bit is at the error level
 unfoldable pub bookRefusal : List ℤ → Book → ℕ

@@ -8,13 +8,19 @@ use native.Mathlib.Omega.{arith}
 use lib.Dec.{T, eqb, leb}
 use lib.IntN.{ℤ, pos}
 use lib.ListN.{length}
+use Rattle.inputs.specs.Commands.{Acted, acted, resetOf, clearLocksOf, clearExtremesOf, teachOf, refusalOf, commandOf}
+use Rattle.inputs.specs.CommandLaws.{isTeach, by-command, by-input, input-aimed}
+use Rattle.inputs.specs.Levels.{edgeAt, inputOf, commandsOf}
+use Rattle.state.specs.State.{freshOf, withLevels, withSwitches, rereadOf, receivedOf}
 use Rattle.events.specs.declared.Event.{Event}
 use Rattle.events.specs.declared.Event.the-variants.{Telegram, Levels, Tick}
 use Rattle.integers.specs.Choice.{by-test}
-use Rattle.parameters.specs.Slots.{offsetSlot, preselectionSlot, action, withOffset}
-use Rattle.parameters.specs.Stores.{word-kept, offset-alike}
-use Rattle.reading.specs.Reading.{acceptsOf, directedAt}
-use Rattle.settings.specs.Settings.{preselectionsOf}
+use Rattle.parameters.specs.Slots.{offsetSlot, preselectionSlot, withOffset}
+use Rattle.parameters.specs.StoreLaws.{word-kept, offset-alike, stored-input, stored-preselection}
+use Rattle.reading.specs.Reading.{acceptsOf}
+use Rattle.settings.specs.declared.Action.{Action}
+use Rattle.settings.specs.AlikeLaws.{input-alike, preselections-alike}
+use Rattle.settings.specs.Settings.{Aimed, preselectionsOf, inputAt}
 use Rattle.switching.specs.declared.Preselection.{Preselection}
 use Rattle.switching.specs.declared.Switch.{Switch}
 use Rattle.switching.specs.EachLaws.{each-length}
@@ -23,15 +29,10 @@ use Rattle.switching.specs.SwitchingLaws.{Held, fresh-held, markAt, switched-at
 use Rattle.switching.specs.Travel.{hysteretic}
 use Rattle.switching.specs.TravelLaws.{Turns, Lawful, stays, view}
 use Rattle.panel.specs.declared.Answer.{Answer}
-use Rattle.commands.specs.Commands.{Acted}
-use Rattle.commands.specs.declared.state.State.{State}
-use Rattle.commands.specs.State.{freshOf, withLevels, withTelegram, withSwitches}
-use Rattle.commands.specs.Commands.{rereadOf, acted, resetOf, clearLocksOf, clearExtremesOf, isTeach, teachOf, refusalOf, commandOf, edgeAt, inputOf, commandsOf}
+use Rattle.state.specs.declared.State.{State}
 use Rattle.panel.specs.Step.{answerOf, switchedOf, displayedOf, settledOf, onTelegram, onLevels, onTick, stepOf}
-use Rattle.commands.specs.CommandLaws.{by-command, by-input}
 use Rattle.panel.specs.ValidLaws.{by-switched, by-step}
 use Rattle.runs.specs.Run.{answersOf, tracked, seenIn, teaches, storesAt, storedBy, stored}
-use Rattle.runs.specs.AlikeLaws.{action-alike, preselections-alike}
 use Rattle.runs.specs.RunLaws.{step-own, own-result, own-error}
 use Rattle.runs.specs.KeptLaws.{Kept, kept-input, kept-step}
 
@@ -72,23 +73,23 @@ never false y n = y
 -- ---- where nothing is stored, the preselections stay
 
 offset-preselections : (t : List ℤ) (x : ℤ) → preselectionsOf (withOffset t x) ≡ preselectionsOf t
-offset-preselections t x = preselections-alike (offset-alike t x) (λ k h. word-kept t offsetSlot x (preselectionSlot k) (λ e. omega arith))
+offset-preselections t x = preselections-alike (offset-alike t x) stored-preselection (λ k h. word-kept t offsetSlot x (preselectionSlot k) (λ e. omega arith))
 
 abbrev preselectionsIn : State → List Preselection
 preselectionsIn s = preselectionsOf (s .table)
 
-command-stores : (a : ℕ) (s : State) → T (not (teaches a s)) → preselectionsIn (commandOf a s .state) ≡ preselectionsIn s
+command-stores : (a : Action) (s : State) → Aimed a → T (not (teaches a s)) → preselectionsIn (commandOf a s .state) ≡ preselectionsIn s
 unfolding teaches resetOf rereadOf clearLocksOf clearExtremesOf
-command-stores a s n =
-    by-command a s (λ (u : State). preselectionsIn u ≡ preselectionsIn s) refl
-    (λ _ _. offset-preselections (s .table) (pos (directedAt (s .table) (s .live .telegram)))) refl refl
+command-stores a s m n =
+    by-command a s m (λ (u : State). preselectionsIn u ≡ preselectionsIn s) refl
+    (λ _ _. offset-preselections (s .table) (pos (s .live .basis .directed))) refl refl
     (λ k h y z. absurd (never (teaches a s) (both (isTeach a) (eqb (refusalOf a s) 0) y z) n))
 
 input-stores : (l i : ℕ) (x : Acted) → T (not (storesAt l i x)) → preselectionsIn (inputOf l i x .state) ≡ preselectionsIn (x .state)
 unfolding storesAt
 input-stores l i x n =
     by-input l i x (λ (u : State). preselectionsIn u ≡ preselectionsIn (x .state))
-    (λ y. command-stores (action (x .state .table) i) (x .state) (and-no (edgeAt (x .state) l i) (teaches (action (x .state .table) i) (x .state)) n y))
+    (λ y. command-stores (inputAt (x .state .table) i .action) (x .state) (input-aimed (x .state .table) i) (and-no (edgeAt (x .state) l i) (teaches (inputAt (x .state .table) i .action) (x .state)) n y))
     refl
 
 settled-table : (s : State) → settledOf s .table ≡ s .table
@@ -96,10 +97,10 @@ unfolding switchedOf displayedOf
 settled-table s = refl
 
 pub step-stores : (s : State) (e : Event) → T (not (storedBy s e)) → preselectionsIn (stepOf s e .state) ≡ preselectionsIn s
-unfolding stepOf onTelegram onLevels onTick answerOf storedBy commandsOf rereadOf
+unfolding stepOf onTelegram onLevels onTick answerOf storedBy commandsOf rereadOf receivedOf
 step-stores s (Telegram w) n =
     by-test (acceptsOf (s .table) w) _ _ (λ (a : Answer). preselectionsIn (a .state) ≡ preselectionsIn s)
-    (λ _. rw (settled-table (rereadOf (withTelegram s w)))) (λ _. refl)
+    (λ _. rw (settled-table (receivedOf s w))) (λ _. refl)
 step-stores s (Levels l) n =
     by-test (leb l 7) _ _ (λ (a : Answer). preselectionsIn (a .state) ≡ preselectionsIn s)
     (λ y. let m = and-no (leb l 7) (storesAt l 0 x₀ || (storesAt l 1 x₁ || storesAt l 2 x₂)) n y in
@@ -121,12 +122,12 @@ step-stores s (Levels l) n =
 step-stores s (Tick ms) n = refl
 
 -- where no input of the loaded table teaches, no command of any list stores a preselection
-module _ {t : List ℤ} (none : (i : ℕ) → i < 3 → T (not (isTeach (action t i)))) where
+module _ {t : List ℤ} (none : (i : ℕ) → i < 3 → T (not (isTeach (inputAt t i .action)))) where
   input-quiet : (l i : ℕ) → i < 3 → (x : Acted) → Kept t (x .state) → T (not (storesAt l i x))
   unfolding storesAt teaches
   input-quiet l i h x c =
-      rw (action-alike (c .alike) i)
-      (no-and (edgeAt (x .state) l i) _ (no-first (isTeach (action t i)) _ (none i h)))
+      rw (input-alike (c .alike) i (stored-input i h))
+      (no-and (edgeAt (x .state) l i) _ (no-first (isTeach (inputAt t i .action)) _ (none i h)))
 
   step-quiet : (s : State) (e : Event) → Kept t s → T (not (storedBy s e))
   unfolding storedBy
@@ -185,10 +186,10 @@ module _ (k : ℕ) (small : k < 4) where
   left-refl : (s : State) → length (s .live .switches) ≡ 4 → Left s s k
   left-refl s e = record { four = e; on-same = refl; released-same = refl }
 
-  left-command : (a : ℕ) (s u : State) → Left s u k → Left s (commandOf a u .state) k
+  left-command : (a : Action) (s u : State) → Aimed a → Left s u k → Left s (commandOf a u .state) k
   unfolding resetOf rereadOf clearLocksOf clearExtremesOf teachOf
-  left-command a s u q =
-      by-command a u (λ (v : State). Left s v k) q
+  left-command a s u m q =
+      by-command a u m (λ (v : State). Left s v k) q
       (λ _ _. record { four = q .four; on-same = q .on-same; released-same = q .released-same })
       (record {
         four = each-length 0 (λ j. unlockedOf) (u .live .switches) ∙ q .four;
@@ -199,7 +200,7 @@ module _ (k : ℕ) (small : k < 4) where
       (λ j h y z. record { four = q .four; on-same = q .on-same; released-same = q .released-same })
 
   left-input : (l i : ℕ) (s : State) (x : Acted) → Left s (x .state) k → Left s (inputOf l i x .state) k
-  left-input l i s x q = by-input l i x (λ (v : State). Left s v k) (λ _. left-command (action (x .state .table) i) s (x .state) q) q
+  left-input l i s x q = by-input l i x (λ (v : State). Left s v k) (λ _. left-command (inputAt (x .state .table) i .action) s (x .state) (input-aimed (x .state .table) i) q) q
 
   left-commands : (s : State) (l : ℕ) → length (s .live .switches) ≡ 4 → Left s (commandsOf s l .state) k
   unfolding commandsOf
@@ -266,11 +267,11 @@ module _ (ps : List Preselection) (k : ℕ) (small : k < 4) (hy : T (hysteretic 
       switch-is = all-ticked-at (s .live .switches) (i .four) k small ms
 
   law-step : (s : State) (e : Event) → Ready s → preselectionsIn (stepOf s e .state) ≡ ps → Law s (stepOf s e .state)
-  unfolding rereadOf
+  unfolding rereadOf receivedOf
   law-step s e i =
       by-step s e (λ (u : State). preselectionsIn u ≡ ps → Law s u) (λ _. law-same s i)
-      (λ w h. law-settled s (rereadOf (withTelegram s w)) i (record { four = i .four; on-same = refl; released-same = refl })
-      (ap preselectionsOf (sym (settled-table (rereadOf (withTelegram s w)))) ∙ h))
+      (λ w h. law-settled s (receivedOf s w) i (record { four = i .four; on-same = refl; released-same = refl })
+      (ap preselectionsOf (sym (settled-table (receivedOf s w))) ∙ h))
       (λ l h. let q = left-commands k small s l (i .four) in
       law-settled s (withLevels (commandsOf s l .state) l) i (record { four = q .four; on-same = q .on-same; released-same = q .released-same })
       (ap preselectionsOf (sym (settled-table (withLevels (commandsOf s l .state) l))) ∙ h))

@@ -7,6 +7,7 @@ use mathlib.Core.List.{List}
 use Prim.Native.Nat.{ℕ, _+_, _*_, _-_, _≤_, _<_}
 use lib.Dec.{T}
 use lib.IntN.{ℤ, pos}
+use Rattle.state.specs.State.{freshOf}
 use Rattle.events.specs.declared.Event.{Event}
 use Rattle.integers.specs.Fraction.{Frac, Accurate}
 use Rattle.measurement.specs.declared.Error.the-variants as Error
@@ -14,7 +15,6 @@ use Rattle.parameters.specs.Load.{loadRefusal}
 use Rattle.parameters.specs.Slots.{linearization, mode, hysteresis, withOffset}
 use Rattle.reading.specs.Reading.{curveAt, slopeAt}
 use Rattle.switching.specs.Travel.{travel, changes, hysteretic}
-use Rattle.commands.specs.State.{freshOf}
 use Rattle.runs.specs.Run.{lastAnswer, traceOf, stored}
 use Rattle.runs.specs.Book.{Book, bookOf}
 

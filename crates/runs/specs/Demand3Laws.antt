@@ -8,35 +8,38 @@ use lib.Dec.{T}
 use lib.IntN.{ℤ, pos}
 use lib.ListN.{length, length-set}
 use Rattle.events.specs.declared.Event.{Event}
+use Rattle.inputs.specs.CommandLaws.{isTeach}
 use Rattle.integers.specs.Fraction.{Frac, Ratio, Accurate}
 use Rattle.measurement.specs.declared.Error.the-variants as Error
 use Rattle.measurement.specs.Curve.{steepest}
-use Rattle.parameters.specs.Slots.{offsetSlot, offset, linearization, action, mode, hysteresis}
-use Rattle.parameters.specs.Stores.{offset-alike, offset-stored}
-use Rattle.parameters.specs.Valid.{Valid, loads}
+use Rattle.parameters.specs.Slots.{offsetSlot, offset, linearization, mode, hysteresis, withOffset}
+use Rattle.parameters.specs.StoreLaws.{alike-sym, alike-trans, offset-alike, offset-stored, stored-layout, stored-scaling, stored-points}
+use Rattle.parameters.specs.Valid.{Valid}
+use Rattle.parameters.specs.ValidLaws.{loads}
+use Rattle.reading.specs.declared.Basis.{Basis}
 use Rattle.reading.specs.declared.Reading.{Reading}
-use Rattle.reading.specs.Reading.{readingOf, curveAt, slopeAt}
+use Rattle.reading.specs.AlikeLaws.{directed-alike, slope-alike, curve-alike}
+use Rattle.reading.specs.Reading.{directedAt, basisOf, readingOf, curveFrom, curveAt, slopeAt}
 use Rattle.reading.specs.ReadingLaws as reading
-use Rattle.settings.specs.Settings.{preselectionOf, preselectionsOf}
+use Rattle.settings.specs.Settings.{preselectionOf, preselectionsOf, inputAt}
+use Rattle.settings.specs.SettingsLaws.{preselection-at}
+use Rattle.state.specs.State.{freshOf}
+use Rattle.state.specs.ValidLaws.{good-fresh}
 use Rattle.switching.specs.declared.Preselection.{Preselection}
 use Rattle.switching.specs.Switching.{partnerOf, preselectionAt}
 use Rattle.switching.specs.SwitchingLaws.{markAt}
 use Rattle.switching.specs.Travel.{Seen, travel, changes, hysteretic}
 use Rattle.switching.specs.TravelLaws.{Lawful, view, mode-bound}
-use Rattle.commands.specs.declared.state.State.{State}
-use Rattle.commands.specs.State.{freshOf}
-use Rattle.commands.specs.Commands.{isTeach}
+use Rattle.state.specs.declared.State.{State}
 use Rattle.panel.specs.Step.{answerOf}
-use Rattle.commands.specs.Valid.{Good}
-use Rattle.commands.specs.CommandLaws.{good-fresh}
+use Rattle.state.specs.Valid.{Good}
 use Rattle.panel.specs.ValidLaws.{good-step}
 use Rattle.runs.specs.Run.{runOf, lastAnswer, traceOf, stored}
 use Rattle.runs.specs.Book.{Book, bookOf}
 use Rattle.runs.specs.Demand3.{exactAt, Demanded}
-use Rattle.runs.specs.AlikeLaws.{alike-sym, alike-trans, slope-alike, curve-alike, preselection-at}
 use Rattle.runs.specs.RunLaws.{answer-own, last-state, last-own, own-result, own-error}
 use Rattle.runs.specs.KeptLaws.{Kept, kept-fresh, kept-step}
-use Rattle.runs.specs.BookLaws.{bookIn, book-run, book-fresh}
+use Rattle.runs.specs.BookLaws.{Matches, book-run, book-fresh}
 use Rattle.runs.specs.ChangesLaws.{Unchanged, quiet-unchanged, teachless-quiet, fresh-switch, lawful, ready-fresh}
 
 -- ---- the state in which a run ends
@@ -53,22 +56,39 @@ kept-run {t} k (e ∷ es) = kept-run (kept-step t k e) es
 
 -- ---- accuracy
 
+-- a basis that is a telegram's has its position
+directed-in : (t : List ℤ) (w : ℕ) (b : Basis) → b ≡ basisOf t w → b .directed ≡ directedAt t w
+unfolding basisOf
+directed-in t w b e = ap (λ (z : Basis). z .directed) e
+
 module _ {t : List ℤ} (v : Valid t) where
-  -- of a state, with what it says of the book
-  accurate-in : {s : State} → Good s → Kept t s → T (s .live .seen) → s .live .reading .error ≡ Error.None → Accurate (s .live .reading .result) (exactAt t (bookIn s)) (slopeAt t)
-  accurate-in {s} g k y e =
-      rw (k .read y)
-      (subst (λ (S : Ratio). Accurate (readingOf (s .table) (s .live .telegram) .result) (exactAt t (bookIn s)) S) (slope-alike (k .alike) long)
-      (subst (λ (u : Frac). Accurate (readingOf (s .table) (s .live .telegram) .result) u (slopeAt (s .table))) curve-same
-      (reading.accurate (g .table) (s .live .telegram) (ap (λ (r : Reading). r .error) (sym (k .read y)) ∙ e))))
+  -- of a state that matches the book
+  accurate-in : {s : State} {b : Book} → Good s → Kept t s → Matches t s b → T (b .seen) → s .live .reading .error ≡ Error.None →
+      Accurate (s .live .reading .result) (exactAt t b) (slopeAt t)
+  unfolding curveAt basisOf
+  accurate-in {s} {b} g k m y e =
+      rw is
+      (subst (λ (S : Ratio). Accurate (readingOf (s .table) (s .live .basis) .result) (exactAt t b) S) (slope-alike (k .alike) stored-scaling long stored-points)
+      (subst (λ (u : Frac). Accurate (readingOf (s .table) (s .live .basis) .result) u (slopeAt (s .table))) (curve-same ∙ ap (curveFrom offsetting) start-same)
+      (reading.accurate (g .table) (s .live .basis) (ap (λ (r : Reading). r .error) (sym is) ∙ e))))
     where
+      is : s .live .reading ≡ readingOf (s .table) (s .live .basis)
+      is = k .read (subst T (sym (m .seen)) y)
+
       long : length (s .table) ≡ length t
       long = g .table .long ∙ sym (v .long)
 
-      curve-same : curveAt (s .table) (s .live .telegram) ≡ exactAt t (bookIn s)
+      -- the loaded table with the book's offset
+      offsetting : List ℤ
+      offsetting = withOffset t (b .offset)
+
+      curve-same : curveFrom (s .table) (s .live .basis .directed) ≡ curveFrom offsetting (s .live .basis .directed)
       curve-same =
-          curve-alike (alike-trans (k .alike) (alike-sym (offset-alike t (offset (s .table))))) (long ∙ sym (length-set t offsetSlot (offset (s .table))))
-          (sym (offset-stored (offset (s .table)) v)) (s .live .telegram)
+          curve-alike (alike-trans (k .alike) (alike-sym (offset-alike t (b .offset)))) stored-scaling (long ∙ sym (length-set t offsetSlot (b .offset))) stored-points
+          (m .offset ∙ sym (offset-stored (b .offset) v)) (s .live .basis .directed)
+
+      start-same : s .live .basis .directed ≡ directedAt offsetting (b .telegram)
+      start-same = directed-in t (b .telegram) (s .live .basis) (m .basis y) ∙ sym (directed-alike (offset-alike t (b .offset)) stored-layout stored-scaling (b .telegram))
 
   -- of the result last answered, with the book
   accurately : (es : List Event) → T (bookOf t es .seen) → lastAnswer t es .error ≡ Error.None → Accurate (lastAnswer t es .result) (exactAt t (bookOf t es)) (slopeAt t)
@@ -76,11 +96,7 @@ module _ {t : List ℤ} (v : Valid t) where
   accurately es =
       let o = last-own (answerOf (freshOf t) 0) es (answer-own (freshOf t) 0) in
       rw (own-result o, own-error o, last-state (answerOf (freshOf t) 0) es)
-      (subst (λ (b : Book). T (b .seen) → runOf (freshOf t) es .live .reading .error ≡ Error.None → Accurate (runOf (freshOf t) es .live .reading .result) (exactAt t b) (slopeAt t)) book-is
-      (accurate-in (good-run (good-fresh v) es) (kept-run (kept-fresh t) es)))
-    where
-      book-is : bookIn (runOf (freshOf t) es) ≡ bookOf t es
-      book-is = book-run (good-fresh v) (kept-fresh t) es ∙ rw (book-fresh t)
+      (accurate-in (good-run (good-fresh v) es) (kept-run (kept-fresh t) es) (book-run (good-fresh v) (kept-fresh t) (book-fresh t) es))
 
 -- with linearization off S is 0
 slope-off : (t : List ℤ) → linearization t ≡ 0 → slopeAt t ≡ record { top = 0; low = 1 }
@@ -116,7 +132,7 @@ unfolding freshOf
 stored-unchanged t es n = quiet-unchanged (preselectionsOf t) (freshOf t) es n refl
 
 -- in a table without a teach the bound holds of every list
-pub travels-without-teach : (t : List ℤ) → ((i : ℕ) → i < 3 → T (not (isTeach (action t i)))) → (es : List Event) → (k : ℕ) → k < 4 → T (hysteretic (mode t k)) →
+pub travels-without-teach : (t : List ℤ) → ((i : ℕ) → i < 3 → T (not (isTeach (inputAt t i .action)))) → (es : List Event) → (k : ℕ) → k < 4 → T (hysteretic (mode t k)) →
     (changes false (traceOf t es k) - 1) * (hysteresis t k + 1) ≤ travel (pos 0) (traceOf t es k)
 travels-without-teach t none es = travels-unchanged t es (stored-unchanged t es (teachless-quiet none (freshOf t) (kept-fresh t) es))
 

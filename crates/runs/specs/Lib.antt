@@ -2,7 +2,6 @@
 pub mod Run
 pub mod Book
 pub mod Demand3
-pub mod AlikeLaws
 pub mod RunLaws
 pub mod KeptLaws
 pub mod BookLaws

@@ -3,11 +3,11 @@ use mathlib.Core.Path.{_≡_, sym, ap, _∙_}
 use mathlib.Core.List.{List}
 use borrow.Author.Tests.{eq-eqb, ne-eqb}
 use lib.IntN.{ℤ}
+use Rattle.state.specs.State.{freshOf}
 use Rattle.events.specs.declared.Event.{Event}
 use Rattle.panel.specs.declared.Answer.{Answer}
-use Rattle.commands.specs.declared.state.State.{State}
+use Rattle.state.specs.declared.State.{State}
 use Rattle.panel.specs.Load.{loadedOf}
-use Rattle.commands.specs.State.{freshOf}
 use Rattle.panel.specs.Step.{answerOf}
 use Rattle.parameters.specs.Load.{loadRefusal}
 use Rattle.parameters.specs.LoadLaws.{answer-number, answer-table}

@@ -5,17 +5,19 @@ use mathlib.Core.List.{List, [], _∷_}
 use Prim.Native.Nat.{ℕ}
 use lib.Dec.{eqb, leb}
 use lib.IntN.{ℤ, pos}
+use Rattle.inputs.specs.Commands.{Acted, acted, refusalOf}
+use Rattle.inputs.specs.CommandLaws.{isTeach}
+use Rattle.inputs.specs.Levels.{edgeAt, inputOf}
+use Rattle.settings.specs.declared.Action.{Action}
+use Rattle.settings.specs.Settings.{inputAt}
+use Rattle.state.specs.State.{freshOf}
 use Rattle.events.specs.declared.Event.{Event}
 use Rattle.events.specs.declared.Event.the-variants.{Telegram, Levels, Tick}
 use Rattle.measurement.specs.Measure.{errorNumber}
-use Rattle.parameters.specs.Slots.{action}
 use Rattle.switching.specs.Switching.{switchAt}
 use Rattle.switching.specs.Travel.{Seen}
 use Rattle.panel.specs.declared.Answer.{Answer}
-use Rattle.commands.specs.Commands.{Acted}
-use Rattle.commands.specs.declared.state.State.{State}
-use Rattle.commands.specs.State.{freshOf}
-use Rattle.commands.specs.Commands.{acted, isTeach, refusalOf, edgeAt, inputOf}
+use Rattle.state.specs.declared.State.{State}
 use Rattle.panel.specs.Step.{answerOf, stepOf}
 
 -- "each gets the state the last returned": the state in the end, and the answers
@@ -49,12 +51,12 @@ traceOf t es k = seenIn k (answersOf (freshOf t) es)
 
 -- ---- a command stores a preselection: a teach, actions 5 to 8, that is not refused
 
-unfoldable pub teaches : ℕ → State → Bool
+unfoldable pub teaches : Action → State → Bool
 teaches a s = isTeach a && eqb (refusalOf a s) 0
 
 -- input i + 1 does so, on what the earlier ones left
 unfoldable pub storesAt : ℕ → ℕ → Acted → Bool
-storesAt l i x = edgeAt (x .state) l i && teaches (action (x .state .table) i) (x .state)
+storesAt l i x = edgeAt (x .state) l i && teaches (inputAt (x .state .table) i .action) (x .state)
 
 unfoldable pub storedBy : State → Event → Bool
 storedBy s (Telegram w) = false

@@ -11,7 +11,7 @@ use Rattle.events.specs.declared.Event.the-variants.{Telegram, Levels, Tick}
 use Rattle.integers.specs.Choice.{by-test}
 use Rattle.reading.specs.Reading.{acceptsOf}
 use Rattle.panel.specs.declared.Answer.{Answer}
-use Rattle.commands.specs.declared.state.State.{State}
+use Rattle.state.specs.declared.State.{State}
 use Rattle.panel.specs.Step.{answerOf, onTelegram, onLevels, onTick, stepOf}
 use Rattle.runs.specs.Run.{runOf, answersOf, lastOf}
 

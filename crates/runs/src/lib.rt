@@ -1,7 +1,7 @@
 // Runs: lists of events from the fresh state of a loaded table, and what holds of every one.
 // Uses `panel` and the crates below it.
 ghost use mathlib.Core.Path.{_≡_};
-ghost use Rattle.commands.specs.Valid.{Good};
+ghost use Rattle.state.specs.Valid.{Good};
 ghost use Rattle.runs.specs.Run.{lastOf, answersOf};
 ghost use Rattle.runs.specs.Words.{eventOf, eventsIn};
 ghost use Rattle.runs.specs.Ran.{ranOf, Promised};

@@ -6,7 +6,7 @@ use mathlib.Core.Path.{_≡_}
 use mathlib.Core.List.{List}
 use Prim.Native.Nat.{ℕ}
 use lib.IntN.{ℤ}
-use Rattle.commands.specs.State.{freshOf}
+use Rattle.state.specs.State.{freshOf}
 use Rattle.parameters.specs.Load.{loadRefusal}
 use Rattle.registers.specs.Start.{startedOf}
 use Rattle.runs.specs.Demand3.{Demand3}

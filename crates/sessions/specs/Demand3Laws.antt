@@ -5,8 +5,8 @@ use mathlib.Core.Bool.{Bool, true, false, cond}
 use mathlib.Core.List.{List, [], _∷_, _++_}
 use Prim.Native.Nat.{ℕ}
 use lib.IntN.{ℤ}
-use Rattle.commands.specs.declared.state.State.{State}
-use Rattle.commands.specs.State.{freshOf}
+use Rattle.state.specs.declared.State.{State}
+use Rattle.state.specs.State.{freshOf}
 use Rattle.events.specs.declared.Event.{Event}
 use Rattle.panel.specs.Step.{answerOf, stepOf}
 use Rattle.parameters.specs.Load.{loadRefusal}

@@ -1,5 +1,4 @@
 -- A table that loads gives settings that every part accepts: a sound layout, a sound scaling, and points through which a curve can be drawn.
--- Tables that differ in offset and preselections alone give the same settings otherwise.
 use mathlib.Core.Path.{_≡_, refl, sym, ap, ap₂, _∙_, subst}
 use mathlib.Core.List.{List}
 use mathlib.Core.Logic.{_⊎_, inl, inr}
@@ -20,10 +19,11 @@ use Rattle.measurement.specs.Range as range
 use Rattle.measurement.specs.Search.{Usable, rising-list}
 use Rattle.parameters.specs.Rows.{rowAt, rowOf}
 use Rattle.parameters.specs.Slots as slot
-use Rattle.parameters.specs.Ranges as ranges
+use Rattle.parameters.specs.RangeLaws as ranges
 use Rattle.parameters.specs.Valid.{Valid}
 use Rattle.ssi.specs.Sound.{Sound}
-use Rattle.settings.specs.Settings.{layoutOf, scalingOf, pointsOf}
+use Rattle.settings.specs.Settings.{layoutOf, scalingOf, pointsOf, preselectionOf, preselectionsOf}
+use Rattle.switching.specs.Switching.{preselectionAt}
 
 -- with the mode off nothing is asked of the points
 linearizable : (m : ℕ) {ws : List ℤ} {n : ℕ} → ((m ≡ 0 → ⊥) → Usable ws n) → Linearizable m ws n
@@ -111,3 +111,12 @@ module _ {t : List ℤ} (v : Valid t) where
   points-ordered =
       ordered (slot.linearization t) (pointsOf t) (slot.pointsInUse t) points-usable
       (λ e. let o = ranges.origin v e in ap₂ (λ (x y : ℤ). record { x = x; y = y }) (point-x 0 ∙ o .0) (point-y 0 ∙ o .1))
+
+-- preselection k of the four
+pub preselection-at : (t : List ℤ) (k : ℕ) → k < 4 → preselectionAt (preselectionsOf t) k ≡ preselectionOf t k
+unfolding preselectionsOf
+preselection-at t zero h = refl
+preselection-at t (suc zero) h = refl
+preselection-at t (suc (suc zero)) h = refl
+preselection-at t (suc (suc (suc zero))) h = refl
+preselection-at t (suc (suc (suc (suc k)))) h = absurd (omega arith)

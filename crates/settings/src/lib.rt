@@ -1,14 +1,59 @@
-// A table as the settings that the parts of the engine take: the telegram's layout, the scaling and the preselections.
-// Uses `parameters` for the slots, and the settings' structs of `ssi`, `measurement` and `switching`.
+// A table as the settings that the parts of the engine take: the telegram's layout, the scaling with the points, the analog span, the preselections and the inputs.
+// Above it nothing knows a slot. Uses `parameters` for the slots, and the settings' structs of `ssi`, `measurement` and `switching`.
 ghost use mathlib.Core.Path.{_≡_};
 ghost use Prim.Native.Nat.{_<_};
-ghost use Rattle.settings.specs.Settings.{layoutOf, scalingOf, preselectionOf, preselectionsOf};
+ghost use lib.ListN.{length};
+ghost use Rattle.settings.specs.Settings.{layoutOf, scalingOf, pointsOf, spanOf, preselectionOf, preselectionsOf, actionOf, configOf, inputAt};
+ghost use Rattle.parameters.specs.Slots.{bitsPerTurn};
 use measurement::Scaling;
 use parameters::number;
 use parameters::slots;
 use parameters::word;
 use ssi::Layout;
 use switching::Preselection;
+
+// The ends and the format of the analog value.
+pub struct Span {
+    // 0 is ±10 V, 1 is 0..20 mA, 2 is 4..20 mA.
+    pub format: u32,
+    // The results at which the code is 0 and at its full scale.
+    pub start: i32,
+    pub end: i32,
+}
+
+// What an input does.
+pub enum Action {
+    // Nothing.
+    None,
+    // The offset becomes the position after direction.
+    Reset,
+    // The shown value is held.
+    Freeze,
+    // The locks are cleared.
+    ClearLocks,
+    // Least and greatest start anew.
+    ClearExtremes,
+    // Preselection k + 1 takes the result.
+    Teach(usize),
+}
+
+// When an input acts, and while which level it freezes.
+pub enum Config {
+    // On a fall; freezes while low.
+    Low,
+    // On a rise; freezes while high.
+    High,
+    // On a rise.
+    Rising,
+    // On a fall.
+    Falling,
+}
+
+// The settings of one input.
+pub struct Input {
+    pub action: Action,
+    pub config: Config,
+}
 
 // How a telegram is laid out.
 pub fn layout(t: &[i32; 104]) -> Layout
@@ -24,11 +69,19 @@ pub fn layout(t: &[i32; 104]) -> Layout
     }
 }
 
+// How many bits of the position are within a turn.
+pub fn bits_per_turn(t: &[i32; 104]) -> u32
+    ensures { λ r. ⌜ r ≡ bitsPerTurn (now (t .entry)) ⌝ }
+{
+    number(t, slots::BITS_PER_TURN)
+}
+
 // How a position becomes a result.
 pub fn scaling(t: &[i32; 104]) -> Scaling
     ensures { λ r. ⌜ r ≡ scalingOf (now (t .entry)) ⌝ }
 {
     Scaling {
+        direction: number(t, slots::DIRECTION),
         offset: word(t, slots::OFFSET),
         round_loop: number(t, slots::ROUND_LOOP),
         factor: number(t, slots::FACTOR),
@@ -39,8 +92,27 @@ pub fn scaling(t: &[i32; 104]) -> Scaling
     }
 }
 
+// The words of the control points.
+pub fn points(words: &[i32]) -> &[i32]
+    requires { ⌜ length (now words) ≡ 104 ⌝ }
+    ensures { λ r. ⌜ now r ≡ pointsOf (now (words .entry)) ⌝ }
+{
+    &words[slots::POINT_X..]
+}
+
+// The analog value's ends and format.
+pub fn analog_span(t: &[i32; 104]) -> Span
+    ensures { λ r. ⌜ r ≡ spanOf (now (t .entry)) ⌝ }
+{
+    Span {
+        format: number(t, slots::ANALOG_FORMAT),
+        start: word(t, slots::ANALOG_START),
+        end: word(t, slots::ANALOG_END),
+    }
+}
+
 // Preselection k + 1 with its settings.
-pub fn preselection(t: &[i32; 104], k: usize) -> Preselection
+fn preselection(t: &[i32; 104], k: usize) -> Preselection
     requires { ⌜ k < 4 ⌝ }
     ensures { λ r. ⌜ r ≡ preselectionOf (now (t .entry)) k ⌝ }
 {
@@ -67,4 +139,45 @@ pub fn preselections(t: &[i32; 104]) -> [Preselection; 4]
         preselection(t, 2),
         preselection(t, 3),
     ]
+}
+
+// The action of a number; what is no action does nothing.
+fn action_of(n: u32) -> Action
+    ensures { λ r. ⌜ r ≡ actionOf n ⌝ }
+{
+    match n {
+        1 => Action::Reset,
+        2 => Action::Freeze,
+        3 => Action::ClearLocks,
+        4 => Action::ClearExtremes,
+        5 => Action::Teach(0),
+        6 => Action::Teach(1),
+        7 => Action::Teach(2),
+        8 => Action::Teach(3),
+        _ => Action::None,
+    }
+}
+
+// The config of a number.
+fn config_of(n: u32) -> Config
+    ensures { λ r. ⌜ r ≡ configOf n ⌝ }
+{
+    match n {
+        0 => Config::Low,
+        1 => Config::High,
+        2 => Config::Rising,
+        _ => Config::Falling,
+    }
+}
+
+// The settings of input i + 1.
+pub fn input_at(t: &[i32; 104], i: usize) -> Input
+    requires { ⌜ i < 3 ⌝ }
+    ensures { λ r. ⌜ r ≡ inputAt (now (t .entry)) i ⌝ }
+{
+    let at = slots::INPUT_STRIDE * i;
+    Input {
+        action: action_of(number(t, slots::ACTION + at)),
+        config: config_of(number(t, slots::CONFIG + at)),
+    }
 }

@@ -1,12 +1,12 @@
 // What the inputs of the slave do: a line of TABLE to a table, a line of EVENTS and a frame to a panel.
-// Uses the commands of `script`, the slots of `parameters`, `events` and `panel` for events, and `framing` and `registers` for frames, on the state of `commands`.
-use commands::state::State;
+// Uses the commands of `script`, the slots of `parameters`, `events` and `panel` for events, and `framing` and `registers` for frames, on the values of `state`.
 use events::Event;
 use framing::Collector;
 use modbus::replies::Reply;
 use script::Command;
+use state::State;
 ghost use mathlib.Core.Path.{_≡_};
-ghost use Rattle.commands.specs.Valid.{Good};
+ghost use Rattle.state.specs.Valid.{Good};
 ghost use Prim.Native.Nat.{_≤_};
 ghost use Rattle.modbus.specs.Replies.{longestReply};
 ghost use Rattle.slave.specs.Inputs.{listedOf, movedOf, keptOf, steppedOf, repliedOf};

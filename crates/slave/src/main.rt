@@ -1,16 +1,16 @@
 // The panel as a Modbus slave on a serial line: `slave NODE TABLE [EVENTS]`, the line on standard input and output.
-// TABLE has `slot` lines, EVENTS `t`, `i` and `c` lines. Uses `framing` to find frames, `registers` to start and to answer on the state of `commands`,
+// TABLE has `slot` lines, EVENTS `t`, `i` and `c` lines. Uses `framing` to find frames, `registers` to start and to answer on the values of `state`,
 // `script` for lines, `parameters` for the defaults, `decimal` for NODE, and `os`, `io` and `libc` to read and write.
-use commands::state::State;
 use decimal::Parsed;
 use framing::Collector;
 use libc::STDERR_FILENO;
 use libc::STDIN_FILENO;
 use libc::STDOUT_FILENO;
 use modbus::replies::Reply;
+use state::State;
 use stream::Stream;
 ghost use Prim.Native.Nat.{_≤_};
-ghost use Rattle.commands.specs.Valid.{Good};
+ghost use Rattle.state.specs.Valid.{Good};
 ghost use Rattle.modbus.specs.Replies.{longestReply};
 
 mod inputs; // inputs.rt: what a line of TABLE or EVENTS and a frame do

@@ -1,6 +1,6 @@
 -- `bench_frame::repeated` is safe and ends. The invariant: the state is valid, as `serve_all` promises. The measure is the number of rounds left.
-use Rattle.commands.specs.State.{stateOf}
-use Rattle.commands.specs.Valid.{Good}
+use Rattle.state.specs.State.{stateOf}
+use Rattle.state.specs.Valid.{Good}
 use borrow.Author.Needs.{needs}
 use Rattle.bench_frame.proofs.repeated.Statement.{statement}
 use Rattle.bench_frame.proofs.repeated.Tie as tie

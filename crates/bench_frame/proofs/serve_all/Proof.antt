@@ -1,8 +1,8 @@
 -- `bench_frame::serve_all` meets its contract. The invariant: the place is within the frames, and the state stays valid, as `serve` promises. The measure is what is left of the frames.
 use Prim.Native.Nat.{_-_, _≤_}
 use lib.ListN.{length}
-use Rattle.commands.specs.State.{stateOf}
-use Rattle.commands.specs.Valid.{Good}
+use Rattle.state.specs.State.{stateOf}
+use Rattle.state.specs.Valid.{Good}
 use borrow.Author.Needs.{needs}
 use Rattle.bench_frame.proofs.serve_all.Statement.{statement}
 use Rattle.bench_frame.proofs.serve_all.Tie as tie

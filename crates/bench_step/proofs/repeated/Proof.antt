@@ -1,7 +1,7 @@
 -- `bench_step::repeated` is safe and ends. The invariant: the state is valid, as `run_once` promises. The measure is the number of runs left.
 use borrow.Author.Needs.{needs}
-use Rattle.commands.specs.State.{stateOf}
-use Rattle.commands.specs.Valid.{Good}
+use Rattle.state.specs.State.{stateOf}
+use Rattle.state.specs.Valid.{Good}
 use Rattle.bench_step.proofs.repeated.Statement.{statement}
 use Rattle.bench_step.proofs.repeated.Tie as tie
 

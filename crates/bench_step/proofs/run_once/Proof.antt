@@ -2,8 +2,8 @@
 use Prim.Native.Nat.{_-_}
 use borrow.Author.Needs.{needs}
 use lib.ListN.{length}
-use Rattle.commands.specs.State.{stateOf}
-use Rattle.commands.specs.Valid.{Good}
+use Rattle.state.specs.State.{stateOf}
+use Rattle.state.specs.Valid.{Good}
 use Rattle.bench_step.proofs.run_once.Statement.{statement}
 use Rattle.bench_step.proofs.run_once.Tie as tie
 

@@ -5,13 +5,14 @@ use mathlib.Core.List.{List}
 use mathlib.Core.Path.{_≡_, sym, subst, ap, _∙_}
 use lib.IntN.{ℤ}
 use Rattle.events.specs.declared.Event.{Event}
-use Rattle.commands.specs.declared.state.Live.{Live}
-use Rattle.commands.specs.declared.state.State.{State}
-use Rattle.commands.specs.State.{stateOf}
-use Rattle.commands.specs.Valid.{Good}
+use Rattle.state.specs.declared.Live.{Live}
+use Rattle.state.specs.declared.State.{State}
+use Rattle.state.specs.State.{stateOf}
+use Rattle.state.specs.Valid.{Good}
 use Rattle.panel.specs.declared.Answer.{Answer}
 use Rattle.panel.specs.declared.Begun.{Begun}
-use Rattle.panel.specs.Step.{answerOf, settledOf, stepOf, answerAfter}
+use Rattle.panel.specs.Step.{answerOf, settledOf, stepOf}
+use Rattle.panel.specs.StepWay.{answerAfter}
 use Rattle.panel.specs.ValidLaws.{good-step}
 use Rattle.panel.proofs.advance.Statement.{statement}
 use Rattle.panel.proofs.advance.Tie as tie

@@ -1,8 +1,8 @@
 -- `panel::load` meets its contract: whatever is loaded, the table is valid, and its fresh state too.
 use borrow.Author.Needs.{needs}
-use Rattle.parameters.specs.Valid.{load-valid}
+use Rattle.parameters.specs.ValidLaws.{load-valid}
 use Rattle.panel.specs.Load.{loadedOf}
-use Rattle.commands.specs.CommandLaws.{good-fresh}
+use Rattle.state.specs.ValidLaws.{good-fresh}
 use Rattle.panel.proofs.load.Statement.{statement}
 use Rattle.panel.proofs.load.Tie as tie
 

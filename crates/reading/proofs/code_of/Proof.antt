@@ -1,4 +1,4 @@
--- `reading::code_of` meets its contract.
+-- `reading::code_of` meets its contract: the span's ends and the result are words.
 use borrow.Author.Needs.{needs}
 use mathlib.Core.Path.{_≡_}
 use mir.Syntax.{w32}
@@ -7,35 +7,17 @@ use Rattle.reading.specs.Reading.{codeAt}
 use Rattle.reading.proofs.code_of.Statement.{statement}
 use Rattle.reading.proofs.code_of.Tie as tie
 
-number-requires : tie.Need-number-requires
-number-requires c κs = search needs
-
-word-requires : tie.Need-word-requires
-word-requires c κs = search needs
-
-word-requires-2 : tie.Need-word-requires-2
-word-requires-2 c κs = search needs
-
 code-requires : tie.Need-code-requires
 code-requires c κs = search needs
 
 returns : tie.Need-returns
 unfolding codeAt
 returns c =
-    let b = c .before .before in
-    let m = b .before .before .before .args .m in
-    let r : bk w32 (m .result) ≡ m .result = search needs in
-    rw (
-      back-at w32 (c .code .result) (c .code .ok),
-      c .code .ensures,
-      r,
-      back-at w32 (b .word2 .result) (b .word2 .ok),
-      back-at w32 (b .before .word .result) (b .before .word .ok),
-      b .word2 .ensures,
-      b .before .word .ensures,
-      b .before .before .number .ensures,
-    )
+    let g = c .before .before .before .before .args in
+    let s : bk w32 (g .a .start) ≡ g .a .start = search needs in
+    let e : bk w32 (g .a .end) ≡ g .a .end = search needs in
+    let r : bk w32 (g .m .result) ≡ g .m .result = search needs in
+    rw (back-at w32 (c .code .result) (c .code .ok), c .code .ensures, s, e, r)
 
 pub code-of-spec : {M : Type 1} → statement M
-code-of-spec =
-    tie.close (tie.spec number-requires word-requires word-requires-2 code-requires returns)
+code-of-spec = tie.close (tie.spec code-requires returns)

@@ -1,7 +1,7 @@
 -- `reading::directed` meets its contract: the position is below M, so direction turns it within M.
 use borrow.Author.Needs.{needs}
 use native.Mathlib.Omega.{arith}
-use Rattle.settings.specs.Settings.{layoutOf}
+use Rattle.settings.specs.Settings.{layoutOf, scalingOf}
 use Rattle.settings.specs.SettingsLaws.{layout-sound}
 use Rattle.ssi.specs.SoundLaws.{position-lt}
 use Rattle.reading.specs.Reading.{directedAt}
@@ -14,8 +14,8 @@ layout-requires c κs = search needs
 position-requires : tie.Need-position-requires
 position-requires c κs = rw (c .layout .ensures) (layout-sound (c .before .pre))
 
-number-requires : tie.Need-number-requires
-number-requires c κs = search needs
+scaling-requires : tie.Need-scaling-requires
+scaling-requires c κs = search needs
 
 width-requires : tie.Need-width-requires
 width-requires c κs = rw (c .before .before .layout .ensures) (layout-sound (c .before .before .before .pre))
@@ -28,9 +28,9 @@ directed-requires c κs = let b = c .before .before in
     (omega (arith, s .from-one, s .low-high, s .high-resolution, s .to-32), position-lt (layoutOf t) (b .before .before .args .telegram))
 
 returns : tie.Need-returns
-unfolding directedAt
+unfolding directedAt scalingOf
 returns c = let b = c .before .before .before in
-    rw (c .directed .ensures, c .before .before .number .ensures, c .before .width .ensures, b .position .ensures, b .before .layout .ensures)
+    rw (c .directed .ensures, c .before .before .scaling .ensures, c .before .width .ensures, b .position .ensures, b .before .layout .ensures)
 
 pub directed-spec : {M : Type 1} → statement M
 directed-spec =
@@ -38,7 +38,7 @@ directed-spec =
     (tie.spec
     layout-requires
     position-requires
-    number-requires
+    scaling-requires
     width-requires
     directed-requires
     returns)

@@ -11,26 +11,22 @@ use Rattle.reading.proofs.driven.Tie as tie
 error-number-requires : tie.Need-error-number-requires
 error-number-requires c κs = search needs
 
-number-requires : tie.Need-number-requires
-number-requires c κs = search needs
-
 drive-of-requires : tie.Need-drive-of-requires
 unfolding codeAt
 drive-of-requires c κs =
-    let s = c .before .before .before in
-    rw (toZ-ofZ (s .fits .code), s .pre, c .number .ensures) (code-fits _ _ _ _)
+    let s = c .before .before in
+    rw (toZ-ofZ (s .fits .code), s .pre) (code-fits _ _ _ _)
 
 returns : tie.Need-returns
 unfolding driveAt
 returns c =
-    let s = c .before .before .before .before in
-    let test = c .before .before in
+    let test = c .before in
+    let s = test .before .before in
     rw (
       eq-eqb _ _ (sym (test .before .error-number .ensures) ∙ test .if1 .taken),
       c .drive-of .ensures .0,
       toZ-ofZ (s .fits .code),
       s .pre,
-      c .before .number .ensures,
     )
 
 returns-2 : tie.Need-returns-2
@@ -38,5 +34,4 @@ unfolding driveAt
 returns-2 c = rw (ne-eqb _ _ (λ z. c .if1 .left (c .before .error-number .ensures ∙ z)))
 
 pub driven-spec : {M : Type 1} → statement M
-driven-spec =
-    tie.close (tie.spec error-number-requires number-requires drive-of-requires returns returns-2)
+driven-spec = tie.close (tie.spec error-number-requires drive-of-requires returns returns-2)

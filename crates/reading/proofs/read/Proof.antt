@@ -10,6 +10,9 @@ use Rattle.reading.proofs.read.Tie as tie
 measured-requires : tie.Need-measured-requires
 measured-requires c κs = search needs
 
+analog-span-requires : tie.Need-analog-span-requires
+analog-span-requires c κs = search needs
+
 code-of-requires : tie.Need-code-of-requires
 code-of-requires c κs = search needs
 
@@ -18,10 +21,10 @@ driven-requires c κs = search needs
 
 returns : tie.Need-returns
 unfolding readingOf
-returns c = let m = c .before .before .before .measured in
-    let k = c .before .before .code-of in
+returns c = let k = c .before .before in
+    let m = k .before .before .measured in
     let e : bk w32 (m .result .result) ≡ m .result .result = search needs in
-    rw (e, back-at w32 (k .result) (k .ok), k .ensures, c .before .driven .ensures, m .ensures)
+    rw (e, back-at w32 (k .code-of .result) (k .code-of .ok), k .code-of .ensures, c .before .driven .ensures, k .before .analog-span .ensures, m .ensures)
 
 pub read-spec : {M : Type 1} → statement M
-read-spec = tie.close (tie.spec measured-requires code-of-requires driven-requires returns)
+read-spec = tie.close (tie.spec measured-requires analog-span-requires code-of-requires driven-requires returns)

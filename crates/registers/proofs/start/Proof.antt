@@ -1,7 +1,7 @@
 -- `registers::start` meets its contract: a node address leads to the load, another to 33.
 use borrow.Author.Needs.{needs}
-use Rattle.commands.specs.CommandLaws.{good-fresh}
-use Rattle.parameters.specs.Valid.{defaults-valid}
+use Rattle.state.specs.ValidLaws.{good-fresh}
+use Rattle.parameters.specs.ValidLaws.{defaults-valid}
 use Rattle.registers.specs.Start.{startedOf}
 use Rattle.registers.proofs.start.Statement.{statement}
 use Rattle.registers.proofs.start.Tie as tie

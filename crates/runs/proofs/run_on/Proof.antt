@@ -5,7 +5,7 @@ use mathlib.Core.Path.{_≡_, refl, sym, _∙_}
 use Prim.Native.Nat.{_≤_, _-_}
 use native.Mathlib.Omega.{arith}
 use lib.ListN.{length, drop}
-use Rattle.commands.specs.Valid.{Good}
+use Rattle.state.specs.Valid.{Good}
 use Rattle.runs.specs.Run.{lastOf, answersOf}
 use Rattle.runs.specs.Words.{eventsIn}
 use Rattle.runs.specs.WordLaws.{words-more, words-end}

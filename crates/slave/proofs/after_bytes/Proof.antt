@@ -4,7 +4,7 @@ use mathlib.Core.List.{List}
 use Prim.Native.Nat.{ℕ, _+_, _-_, _<_}
 use native.Mathlib.Omega.{arith}
 use lib.ListN.{length, getD, drop}
-use Rattle.commands.specs.Valid.{Good}
+use Rattle.state.specs.Valid.{Good}
 use Rattle.framing.specs.declared.Collector.{Collector}
 use Rattle.framing.specs.Collector.{pushed, fedTo}
 use Rattle.framing.specs.PieceLaws.{fed-next, next-on}

@@ -1,5 +1,5 @@
 -- `slave::serve` is safe and ends. The invariant: the panel is valid, as `after_read` promises. The measure is the number of reads left.
-use Rattle.commands.specs.Valid.{Good}
+use Rattle.state.specs.Valid.{Good}
 use borrow.Author.Needs.{needs}
 use Rattle.slave.proofs.serve.Statement.{statement}
 use Rattle.slave.proofs.serve.Tie as tie

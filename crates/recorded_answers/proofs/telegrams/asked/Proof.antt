@@ -2,7 +2,7 @@
 use native.Mathlib.Omega.{arith}
 use borrow.Author.Needs.{needs}
 use borrow.Author.Tests.{not-true, not-false}
-use Rattle.parameters.specs.Ranges.{bits-per-turn-range}
+use Rattle.parameters.specs.RangeLaws.{bits-per-turn-range}
 use Rattle.settings.specs.SettingsLaws.{layout-sound}
 use Rattle.ssi.specs.Sound.{Sound}
 use Rattle.recorded_answers.specs.Answers.{askedOf}

@@ -5,8 +5,8 @@ use mathlib.Core.List.{List, [], _∷_}
 use Prim.Native.Nat.{ℕ}
 use types.Run.{OneOf, miss}
 use denote.Enum.Declared.{tagOf}
-use Rattle.commands.specs.declared.state.State.{State}
-use Rattle.commands.specs.Valid.{Good}
+use Rattle.state.specs.declared.State.{State}
+use Rattle.state.specs.Valid.{Good}
 use Rattle.script.proofs.Command.{the-type}
 use Rattle.script.specs.declared.Command.{Command}
 use Rattle.script.specs.declared.Command.the-variants.{Blank, Wrong, Node, Slot, Start, Telegram, Levels, Tick, Frame}

@@ -1,5 +1,0 @@
--- The modules of this crate's definitions and laws, in the order in which to read them.
-pub mod State
-pub mod Commands
-pub mod Valid
-pub mod CommandLaws

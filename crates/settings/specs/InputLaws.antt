@@ -1,0 +1,43 @@
+-- An action and a config are the paper's numbers and no others, and a teach names one of the four preselections.
+use mathlib.Core.Path.{_≡_, refl}
+use mathlib.Core.Bool.{cond}
+use Prim.Native.Nat.{ℕ, zero, suc, _+_, _≤_, _<_}
+use native.Mathlib.Omega.{arith}
+use lib.Dec.{eqb}
+use Rattle.integers.specs.Choice.{by-test}
+use Rattle.settings.specs.declared.Action.{Action}
+use Rattle.settings.specs.declared.Action.the-variants.{None, Reset, Freeze, ClearLocks, ClearExtremes, Teach}
+use Rattle.settings.specs.Settings.{Aimed, actionOf, actionNumber, configOf, configNumber}
+
+pub action-number : (n : ℕ) → n ≤ 8 → actionNumber (actionOf n) ≡ n
+unfolding actionOf actionNumber
+action-number zero h = refl
+action-number (suc zero) h = refl
+action-number (suc (suc zero)) h = refl
+action-number (suc (suc (suc zero))) h = refl
+action-number (suc (suc (suc (suc zero)))) h = refl
+action-number (suc (suc (suc (suc (suc zero))))) h = refl
+action-number (suc (suc (suc (suc (suc (suc zero)))))) h = refl
+action-number (suc (suc (suc (suc (suc (suc (suc zero))))))) h = refl
+action-number (suc (suc (suc (suc (suc (suc (suc (suc zero)))))))) h = refl
+action-number (suc (suc (suc (suc (suc (suc (suc (suc (suc n))))))))) h = absurd (omega arith)
+
+pub config-number : (n : ℕ) → n ≤ 3 → configNumber (configOf n) ≡ n
+unfolding configOf configNumber
+config-number zero h = refl
+config-number (suc zero) h = refl
+config-number (suc (suc zero)) h = refl
+config-number (suc (suc (suc zero))) h = refl
+config-number (suc (suc (suc (suc n)))) h = absurd (omega arith)
+
+pub aimed : (n : ℕ) → Aimed (actionOf n)
+unfolding actionOf
+aimed n =
+    by-test (eqb n 1) Reset _ Aimed (λ _. tt)
+    (λ _. by-test (eqb n 2) Freeze _ Aimed (λ _. tt)
+    (λ _. by-test (eqb n 3) ClearLocks _ Aimed (λ _. tt)
+    (λ _. by-test (eqb n 4) ClearExtremes _ Aimed (λ _. tt)
+    (λ _. by-test (eqb n 5) (Teach 0) _ Aimed (λ _. omega arith)
+    (λ _. by-test (eqb n 6) (Teach 1) _ Aimed (λ _. omega arith)
+    (λ _. by-test (eqb n 7) (Teach 2) _ Aimed (λ _. omega arith)
+    (λ _. by-test (eqb n 8) (Teach 3) None Aimed (λ _. omega arith) (λ _. tt))))))))

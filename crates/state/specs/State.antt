@@ -1,0 +1,100 @@
+-- The state of a panel, its fresh state, its parts set anew, and the result worked out. Paper 01, "Events and inputs", "a fresh state".
+-- The table in force stands in the state: a reset stores its offset, a teach a preselection. The live values stand beside it. Assumes nothing.
+use mathlib.Core.Bool.{true, false}
+use mathlib.Core.List.{List, [], _∷_}
+use Prim.Native.Nat.{ℕ}
+use lib.IntN.{ℤ, pos}
+use Rattle.analog.specs.declared.Drive.the-variants.{Off}
+use Rattle.measurement.specs.declared.Error.the-variants as Error
+use Rattle.reading.specs.declared.Basis.{Basis}
+use Rattle.reading.specs.declared.Reading.{Reading}
+use Rattle.reading.specs.Reading.{basisOf, readingOf}
+use Rattle.switching.specs.declared.Switch.{Switch}
+use Rattle.switching.specs.Switching.{freshSwitch}
+use Rattle.state.specs.declared.Extremes.{Extremes}
+use Rattle.state.specs.declared.Live.{Live}
+use Rattle.state.specs.declared.State.{State}
+use Rattle.state.specs.Extremes.{noExtremes, errorIn, widenedOf}
+
+-- nothing to start from yet
+abbrev pub noBasis : Basis
+noBasis = record { directed = 0; reported = false }
+
+-- result 0, no error, drive off
+abbrev pub noReading : Reading
+noReading = record { result = pos 0; error = Error.None; code = pos 0; drive = Off }
+
+-- levels low, no telegram, result and shown 0, no least or greatest, conditions off
+abbrev pub freshLive : Live
+freshLive =
+    record {
+      levels = 0;
+      seen = false;
+      basis = noBasis;
+      reading = noReading;
+      shown = pos 0;
+      extremes = noExtremes;
+      switches = freshSwitch ∷ freshSwitch ∷ freshSwitch ∷ freshSwitch ∷ [];
+    }
+
+-- a table and the live values beside it
+abbrev pub stateOf : List ℤ → Live → State
+stateOf t l = record { table = t; live = l }
+
+unfoldable pub freshOf : List ℤ → State
+freshOf t = stateOf t freshLive
+
+-- ---- one of the live values set anew
+
+abbrev pub setLevels : Live → ℕ → Live
+setLevels l x = record { levels = x; seen = l .seen; basis = l .basis; reading = l .reading; shown = l .shown; extremes = l .extremes; switches = l .switches }
+
+-- a telegram was accepted, and its result starts from this
+abbrev pub setBasis : Live → Basis → Live
+setBasis l x = record { levels = l .levels; seen = true; basis = x; reading = l .reading; shown = l .shown; extremes = l .extremes; switches = l .switches }
+
+abbrev pub setReading : Live → Reading → Extremes → Live
+setReading l x y = record { levels = l .levels; seen = l .seen; basis = l .basis; reading = x; shown = l .shown; extremes = y; switches = l .switches }
+
+abbrev pub setShown : Live → ℤ → Live
+setShown l x = record { levels = l .levels; seen = l .seen; basis = l .basis; reading = l .reading; shown = x; extremes = l .extremes; switches = l .switches }
+
+abbrev pub setSwitches : Live → List Switch → Live
+setSwitches l x = record { levels = l .levels; seen = l .seen; basis = l .basis; reading = l .reading; shown = l .shown; extremes = l .extremes; switches = x }
+
+-- ---- one part of the state set anew
+
+abbrev pub withTable : State → List ℤ → State
+withTable s x = stateOf x (s .live)
+
+abbrev pub withLevels : State → ℕ → State
+withLevels s x = stateOf (s .table) (setLevels (s .live) x)
+
+abbrev pub withBasis : State → Basis → State
+withBasis s x = stateOf (s .table) (setBasis (s .live) x)
+
+abbrev pub withReading : State → Reading → Extremes → State
+withReading s x y = stateOf (s .table) (setReading (s .live) x y)
+
+abbrev pub withShown : State → ℤ → State
+withShown s x = stateOf (s .table) (setShown (s .live) x)
+
+abbrev pub withSwitches : State → List Switch → State
+withSwitches s x = stateOf (s .table) (setSwitches (s .live) x)
+
+-- ---- the result worked out
+
+-- the number of the error in force
+abbrev pub errorOf : State → ℕ
+errorOf s = errorIn (s .live .reading)
+
+-- the reading of what the state keeps, under the table in force
+abbrev pub readAgain : State → Reading
+readAgain s = readingOf (s .table) (s .live .basis)
+
+unfoldable pub rereadOf : State → State
+rereadOf s = withReading s (readAgain s) (widenedOf (s .live .extremes) (readAgain s))
+
+-- an accepted telegram
+unfoldable pub receivedOf : State → ℕ → State
+receivedOf s w = rereadOf (withBasis s (basisOf (s .table) w))
