@@ -1,9 +1,9 @@
 -- What the functions put for a whole input, in whatever pieces it comes, is what panelrun means: `output-in-pieces`.
 use mathlib.Core.Path.{_≡_, refl, sym, ap, _∙_}
-use mathlib.Core.Bool.{false}
+use mathlib.Core.Bool.{Bool, true, false}
 use mathlib.Core.List.{List, [], _∷_, _++_, append-assoc, append-nil}
 use mathlib.Core.Logic.{inl, inr}
-use Prim.Native.Nat.{ℕ, _<_}
+use Prim.Native.Nat.{ℕ, _%_, _<_}
 use native.Mathlib.Omega.{arith}
 use borrow.Author.Tests.{eq-eqb, ne-eqb}
 use lib.Dec.{eqb}
@@ -27,8 +27,8 @@ use Rattle.logrun.specs.Progress.{startOf, afterTaken, textTaken, wordFe
 use Rattle.logrun.specs.Output.{linesOf, runText, openingText, outputOf}
 use Rattle.logrun.specs.InputLaws.{short-input}
 use Rattle.logrun.specs.ProgressLaws.{fed-running, text-running, words-fed-ended, words-text-ended}
-use Rattle.logrun.specs.Pieces.{AllWhole, joined, piecesFed, piecesText}
-use Rattle.logrun.specs.PieceLaws.{all-fed, all-text, all-left}
+use Rattle.logrun.specs.Pieces.{Whole, lastLine, piecesText, AsRead, together}
+use Rattle.logrun.specs.PieceLaws.{pieces-fed, pieces-text, left-both, piece-goes, piece-ends, goes, stops-refused, stops-short}
 
 -- a word's refusal is not 0
 refused-some : (p : Pending) (w n : ℕ) → takenOf p w .taken ≡ Refused n → eqb n 0 ≡ false
@@ -87,6 +87,41 @@ pub run-log : (s : State) (bytes : List ℕ) → restText (startOf s) (wordsIn b
 unfolding logOfBytes
 run-log s bytes = run-words (startOf s) (wordsIn bytes) (leftOver bytes) refl ∙ rw (log-start (wordsIn bytes) (leftOver bytes))
 
+-- ---- pieces
+
+-- what is printed from a place of the log on, cut behind a piece of whole words
+rest-both : (p : Progress) (a b : List ℕ) → Whole a
+    → restText p (wordsIn (a ++ b)) (leftOver (a ++ b)) ≡ wordsText p (wordsIn a) ++ restText (wordsFed p (wordsIn a)) (wordsIn b) (leftOver b)
+rest-both p a b h = rw (pieces-text p a b h, pieces-fed p a b h, left-both a b h, append-assoc)
+
+-- a run that ends in a piece prints no more
+rest-ended : (p : Progress) (a b : List ℕ) → Whole a → eqb (wordsFed p (wordsIn a) .refusal) 0 ≡ false
+    → restText p (wordsIn (a ++ b)) (leftOver (a ++ b)) ≡ wordsText p (wordsIn a) ++ lastLine p a
+unfolding finishedOf
+rest-ended p a b h e = rest-both p a b h ∙ rw (ended-text (wordsFed p (wordsIn a)) (wordsIn b) (leftOver b) e, e)
+
+-- a full piece, where the pieces behind it print what is left of the log
+print-full : (full : ℕ) → full % 4 ≡ 0 → (p : Progress) (a : List ℕ) (more : List (List ℕ)) → length a ≡ full
+    → piecesText full (wordsFed p (wordsIn a)) more ≡ restText (wordsFed p (wordsIn a)) (wordsIn (together more)) (leftOver (together more))
+    → piecesText full p (a ∷ more) ≡ restText p (wordsIn (a ++ together more)) (leftOver (a ++ together more))
+unfolding piecesText
+print-full full words p a more l behind = by (eqb (wordsFed p (wordsIn a) .refusal) 0) refl
+  where
+    whole : Whole a
+    whole = rw l words
+
+    by : (t : Bool) → eqb (wordsFed p (wordsIn a) .refusal) 0 ≡ t → piecesText full p (a ∷ more) ≡ restText p (wordsIn (a ++ together more)) (leftOver (a ++ together more))
+    by true e = let g = goes full p a e (omega arith) in rw (g, piece-goes full p a g, behind) (sym (rest-both p a (together more) whole))
+    by false e = let g = stops-refused full p a e in rw (g, piece-ends full p a g, append-nil) (sym (rest-ended p a (together more) whole e))
+
+-- the pieces of a log, as it is read, print what the log prints
+pub pieces-print : (full : ℕ) → full % 4 ≡ 0 → (p : Progress) (pieces : List (List ℕ)) → AsRead full pieces
+    → piecesText full p pieces ≡ restText p (wordsIn (together pieces)) (leftOver (together pieces))
+unfolding piecesText
+pieces-print full words p [] h = absurd h
+pieces-print full words p (a ∷ []) h = let e = stops-short full p a h in rw (e, piece-ends full p a e) (simp append-nil)
+pieces-print full words p (a ∷ (b ∷ more)) h = print-full full words p a (b ∷ more) (h .0) (pieces-print full words (wordsFed p (wordsIn a)) (b ∷ more) (h .1))
+
 -- the input's table and log, where the table has its 416 bytes
 table-first : (table log : List ℕ) → length table ≡ tableBytes → tableOf (table ++ log) ≡ tableOf table
 unfolding tableOf
@@ -99,51 +134,27 @@ opening-loaded : (l : Loaded) → l .number ≡ 0 → openingText l ≡ headerLi
 unfolding openingText
 opening-loaded l h = rw (eq-eqb (l .number) 0 h)
 
-finished-ended : (p : Progress) (left : ℕ) → eqb (p .refusal) 0 ≡ false → finishedOf p left ≡ finishedOf p 0
-unfolding finishedOf
-finished-ended p left e = rw e
-
--- THE LAW of panelrun: the table's 416 bytes, any pieces of whole words, and a last piece with 0 to 3 bytes left over.
--- Where the table loads, the header, what each piece puts, and the end are the output; where it is refused, the load line is
-module _ (table : List ℕ) (pieces : List (List ℕ)) (rest : List ℕ) (whole : AllWhole pieces) (long : length table ≡ tableBytes) where
-  abbrev input : List ℕ
-  input = table ++ (joined pieces ++ rest)
-
-  abbrev begun : Progress
-  begun = startOf (loadedOf (tableOf table) .state)
-
-  output-loaded : loadedOf (tableOf table) .number ≡ 0 → outputOf input ≡ headerLine ++ logText 0 (loadedOf (tableOf table) .state) (logOfBytes (joined pieces ++ rest))
-  unfolding outputOf runText
-  output-loaded loads =
-      let all = joined pieces ++ rest in
-      rw (table-first table all long, log-behind table all long, eq-eqb _ 0 loads)
-      (append-assoc headerLine (linesOf 0 (loadedOf (tableOf table) .state) (logOfBytes all .events)) (endLine (logOfBytes all .number)))
-
+-- ---- THE LAW of panelrun: the table's 416 bytes, and the log in pieces as it is read into a room of whole words. Where the table loads, the header
+-- and what the pieces print are the output; where it is refused, the load line is
+module _ (table : List ℕ) (long : length table ≡ tableBytes) (full : ℕ) (words : full % 4 ≡ 0) (pieces : List (List ℕ)) (read : AsRead full pieces) where
   pub output-in-pieces : loadedOf (tableOf table) .number ≡ 0
-      → openingText (loadedOf (tableOf table))
-      ++ piecesText begun pieces
-      ++ wordsText (piecesFed begun pieces) (wordsIn rest)
-      ++ endLine (finishedOf (wordsFed (piecesFed begun pieces) (wordsIn rest)) (leftOver rest))
-      ≡ outputOf input
+      → openingText (loadedOf (tableOf table)) ++ piecesText full (startOf (loadedOf (tableOf table) .state)) pieces ≡ outputOf (table ++ together pieces)
+  unfolding outputOf runText
   output-in-pieces loads =
-      let all = joined pieces ++ rest in
       let s = loadedOf (tableOf table) .state in
-      let parts : restText begun (wordsIn all) (leftOver all)
-      ≡ piecesText begun pieces ++ wordsText (piecesFed begun pieces) (wordsIn rest) ++ endLine (finishedOf (wordsFed (piecesFed begun pieces) (wordsIn rest)) (leftOver rest)) =
-      rw (all-text begun pieces rest whole, all-fed begun pieces rest whole, all-left pieces rest whole) in
-      rw (opening-loaded (loadedOf (tableOf table)) loads)
-      (sym (output-loaded loads ∙ ap (λ (x : List ℕ). headerLine ++ x) (sym (run-log s all) ∙ parts) ∙ simp append-assoc))
+      rw (
+        opening-loaded (loadedOf (tableOf table)) loads,
+        pieces-print full words (startOf s) pieces read,
+        run-log s (together pieces),
+        table-first table (together pieces) long,
+        log-behind table (together pieces) long,
+        eq-eqb _ 0 loads,
+      )
+      (sym (append-assoc headerLine (linesOf 0 s (logOfBytes (together pieces) .events)) (endLine (logOfBytes (together pieces) .number))))
 
-  -- behind a refusal of the log the rest of the input does not matter
-  pub output-ended : loadedOf (tableOf table) .number ≡ 0 → eqb (piecesFed begun pieces .refusal) 0 ≡ false
-      → openingText (loadedOf (tableOf table)) ++ piecesText begun pieces ++ endLine (finishedOf (piecesFed begun pieces) 0) ≡ outputOf input
-  output-ended loads e =
-      let q = piecesFed begun pieces in
-      rw (words-text-ended q (wordsIn rest) e, words-fed-ended q (wordsIn rest) e, append-nil, finished-ended q (leftOver rest) e) at (output-in-pieces loads)
-
-  pub output-refused : (loadedOf (tableOf table) .number ≡ 0 → ⊥) → openingText (loadedOf (tableOf table)) ≡ outputOf input
+  pub output-refused : (loadedOf (tableOf table) .number ≡ 0 → ⊥) → openingText (loadedOf (tableOf table)) ≡ outputOf (table ++ together pieces)
   unfolding outputOf openingText
-  output-refused n = rw (table-first table (joined pieces ++ rest) long, ne-eqb _ 0 n)
+  output-refused n = rw (table-first table (together pieces) long, ne-eqb _ 0 n)
 
 -- an input that is shorter than a table
 pub output-short : (input : List ℕ) → length input < tableBytes → openingText (loadedOf (tableOf input)) ≡ outputOf input

@@ -1,14 +1,20 @@
--- A log fed in pieces of whole words gives what it gives fed at once: the cut does not matter.
+-- Two pieces of a log, the first of whole words, give what they give together; and what a piece prints, and how much.
 use mathlib.Core.Path.{_≡_, refl, ap, _∙_}
-use mathlib.Core.List.{List, [], _∷_, _++_, append-assoc}
-use Prim.Native.Nat.{ℕ}
+use mathlib.Core.Bool.{true, false, and-false}
+use mathlib.Core.List.{List, [], _∷_, _++_, append-assoc, append-nil}
+use Prim.Native.Nat.{ℕ, _*_, _≤_, _<_}
 use native.Mathlib.Omega.{arith}
-use lib.ListN.{length-append}
+use borrow.Author.Tests.{le-leb, lt-leb}
+use lib.Dec.{eqb}
+use lib.ListN.{length, length-append}
 use Rattle.events.specs.Words.{wordAt}
 use Rattle.events.specs.Bytes.{wordsIn, leftOver}
 use Rattle.logrun.specs.declared.Progress.{Progress}
-use Rattle.logrun.specs.Pieces.{Whole, AllWhole, joined, piecesFed, piecesText}
+use Rattle.lines.specs.LineLaws.{longest}
+use Rattle.logrun.specs.InputLaws.{words-length}
+use Rattle.logrun.specs.Pieces.{Whole, goesOn, lastLine, pieceText}
 use Rattle.logrun.specs.Progress.{wordFed, wordsFed, wordsText}
+use Rattle.logrun.specs.ProgressLaws.{word-at-most}
 
 -- ---- words
 pub fed-both : (p : Progress) (a b : List ℕ) → wordsFed p (a ++ b) ≡ wordsFed (wordsFed p a) b
@@ -41,22 +47,36 @@ pieces-fed p a b h = ap (wordsFed p) (words-both a b h) ∙ fed-both p (wordsIn 
 pub pieces-text : (p : Progress) (a b : List ℕ) → Whole a → wordsText p (wordsIn (a ++ b)) ≡ wordsText p (wordsIn a) ++ wordsText (wordsFed p (wordsIn a)) (wordsIn b)
 pieces-text p a b h = ap (wordsText p) (words-both a b h) ∙ text-both p (wordsIn a) (wordsIn b)
 
--- ---- any number of pieces
+-- ---- what a piece prints
 
-pub all-fed : (p : Progress) (more : List (List ℕ)) (rest : List ℕ) → AllWhole more → wordsFed p (wordsIn (joined more ++ rest)) ≡ wordsFed (piecesFed p more) (wordsIn rest)
-unfolding piecesFed
-all-fed p [] rest h = refl
-all-fed p (a ∷ more) rest h = rw append-assoc (pieces-fed p a (joined more ++ rest) (h .0)) ∙ all-fed (wordsFed p (wordsIn a)) more rest (h .1)
+-- a piece in which the run ends prints its lines and the last line, one behind which it goes on only its lines
+module _ (full : ℕ) (p : Progress) (a : List ℕ) where
+  pub piece-ends : goesOn full p a ≡ false → pieceText full p a ≡ wordsText p (wordsIn a) ++ lastLine p a
+  unfolding pieceText
+  piece-ends e = rw e
 
-pub all-text : (p : Progress) (more : List (List ℕ)) (rest : List ℕ) → AllWhole more
-    → wordsText p (wordsIn (joined more ++ rest)) ≡ piecesText p more ++ wordsText (piecesFed p more) (wordsIn rest)
-unfolding piecesFed piecesText
-all-text p [] rest h = refl
-all-text p (a ∷ more) rest h =
-    let q = wordsFed p (wordsIn a) in
-    rw (append-assoc a (joined more) rest, append-assoc (wordsText p (wordsIn a)) (piecesText q more) (wordsText (piecesFed q more) (wordsIn rest)), ← all-text q more rest (h .1))
-    (pieces-text p a (joined more ++ rest) (h .0))
+  pub piece-goes : goesOn full p a ≡ true → pieceText full p a ≡ wordsText p (wordsIn a)
+  unfolding pieceText
+  piece-goes e = rw (e, append-nil)
 
-pub all-left : (more : List (List ℕ)) (rest : List ℕ) → AllWhole more → leftOver (joined more ++ rest) ≡ leftOver rest
-all-left [] rest h = refl
-all-left (a ∷ more) rest h = rw append-assoc (left-both a (joined more ++ rest) (h .0)) ∙ all-left more rest (h .1)
+  -- full and without a refusal, refused, or not full
+  pub goes : eqb (wordsFed p (wordsIn a) .refusal) 0 ≡ true → full ≤ length a → goesOn full p a ≡ true
+  unfolding goesOn
+  goes e h = rw (e, le-leb full (length a) h)
+
+  pub stops-refused : eqb (wordsFed p (wordsIn a) .refusal) 0 ≡ false → goesOn full p a ≡ false
+  unfolding goesOn
+  stops-refused e = rw e
+
+  pub stops-short : length a < full → goesOn full p a ≡ false
+  unfolding goesOn
+  stops-short h = rw (lt-leb full (length a) h, and-false)
+
+-- 128 bytes a word, 32 a byte
+words-at-most : (p : Progress) (ws : List ℕ) → length (wordsText p ws) ≤ longest * length ws
+unfolding wordsText
+words-at-most p [] = omega arith
+words-at-most p (w ∷ ws) = rw length-append (omega (arith, word-at-most p w, words-at-most (wordFed p w) ws))
+
+pub lines-at-most : (p : Progress) (a : List ℕ) → length (wordsText p (wordsIn a)) ≤ 32 * length a
+lines-at-most p a = omega (arith, words-at-most p (wordsIn a), words-length a)

@@ -20,6 +20,7 @@ ghost use Rattle.panel.specs.Load.{loadedOf};
 ghost use Rattle.state.specs.Valid.{Good};
 ghost use Rattle.logrun.specs.Input.{tableBytes, tableOf};
 ghost use Rattle.logrun.specs.Output.{openingText};
+ghost use Rattle.logrun.specs.Pieces.{goesOn, pieceText};
 ghost use Rattle.logrun.specs.Progress.{startOf, courseOf, progressOf, afterTaken, textTaken, wordFed, wordText, wordsFed, wordsText, finishedOf, Ready};
 
 // The bytes of a table.
@@ -50,7 +51,7 @@ struct Course {
 }
 
 // What words of the log give.
-struct Ran {
+struct Printed {
     // The course after them.
     course: Course,
     // Where the lines end in the buffer.
@@ -63,6 +64,16 @@ pub struct Fed {
     pub progress: Progress,
     // Where the lines end in the buffer.
     pub end: usize,
+}
+
+// What a piece of the log gives.
+pub struct Piece {
+    // The run after it.
+    pub progress: Progress,
+    // Where the lines end in the buffer.
+    pub end: usize,
+    // Whether the run goes on behind it.
+    pub more: bool,
 }
 
 // What the table gives.
@@ -186,7 +197,7 @@ fn event(
     e: Event,
     out: &mut [u8],
     at: usize,
-) -> Ran
+) -> Printed
     requires { ⌜ Ready (progressOf (now t) c) × (at + longest ≤ length (now out)) ⌝ }
     ensures is { λ r. ⌜ progressOf (now (t .exit)) (r .course) ≡ afterTaken (progressOf (now (t .entry)) c) pending (Happened e) ⌝ }
     ensures text { λ r. ⌜ Put (now (out .entry)) at (textTaken (progressOf (now (t .entry)) c) (Happened e)) (r .end) (now (out .exit)) ⌝ }
@@ -196,7 +207,7 @@ fn event(
     let o = panel::advance(t, l, e);
     let live = o.live;
     let end = lines::event_line(out, at, count, e, t, o);
-    Ran {
+    Printed {
         course: Course {
             live,
             pending,
@@ -208,11 +219,11 @@ fn event(
 }
 
 // A word that has no line: an upper half with refusal 0, or a word that is refused.
-fn quiet(c: Course, pending: Pending, refusal: u8, at: usize) -> Ran
+fn quiet(c: Course, pending: Pending, refusal: u8, at: usize) -> Printed
     ensures { λ r. ⌜ r ≡ record { course = record { live = c .live; pending = pending; count = c .count; refusal = refusal }; end = at } ⌝ }
 {
     let live = c.live;
-    Ran {
+    Printed {
         course: Course {
             live,
             pending,
@@ -224,14 +235,14 @@ fn quiet(c: Course, pending: Pending, refusal: u8, at: usize) -> Ran
 }
 
 // One word of the log, its line put at `at`.
-fn take(t: &mut [i32; 104], c: Course, w: u32, out: &mut [u8], at: usize) -> Ran
+fn take(t: &mut [i32; 104], c: Course, w: u32, out: &mut [u8], at: usize) -> Printed
     requires { ⌜ Ready (progressOf (now t) c) × (at + longest ≤ length (now out)) ⌝ }
     ensures is { λ r. ⌜ progressOf (now (t .exit)) (r .course) ≡ wordFed (progressOf (now (t .entry)) c) w ⌝ }
     ensures text { λ r. ⌜ Put (now (out .entry)) at (wordText (progressOf (now (t .entry)) c) w) (r .end) (now (out .exit)) ⌝ }
     ensures ready { λ r. ⌜ Ready (progressOf (now (t .exit)) (r .course)) ⌝ }
 {
     if c.refusal != 0 {
-        return Ran { course: c, end: at };
+        return Printed { course: c, end: at };
     }
     let pending = c.pending;
     let s = events::take(pending, w);
@@ -245,7 +256,7 @@ fn take(t: &mut [i32; 104], c: Course, w: u32, out: &mut [u8], at: usize) -> Ran
 }
 
 // The whole words of a piece of the log, their lines put at the start of the buffer.
-fn words(t: &mut [i32; 104], c: Course, bytes: &[u8], out: &mut [u8]) -> Ran
+fn words(t: &mut [i32; 104], c: Course, bytes: &[u8], out: &mut [u8]) -> Printed
     requires { ⌜ Ready (progressOf (now t) c) × (32 * length (now bytes) ≤ length (now out)) ⌝ }
     ensures is { λ r. ⌜ progressOf (now (t .exit)) (r .course) ≡ wordsFed (progressOf (now (t .entry)) c) (wordsIn (now (bytes .entry))) ⌝ }
     ensures text { λ r. ⌜ Put (now (out .entry)) 0 (wordsText (progressOf (now (t .entry)) c) (wordsIn (now (bytes .entry)))) (r .end) (now (out .exit)) ⌝ }
@@ -262,7 +273,7 @@ fn words(t: &mut [i32; 104], c: Course, bytes: &[u8], out: &mut [u8]) -> Ran
         end = r.end;
         i += 4;
     }
-    Ran { course, end }
+    Printed { course, end }
 }
 
 // The whole words of a piece of the log, from the run so far.
@@ -303,4 +314,32 @@ pub fn finish(p: Progress, left_over: usize, out: &mut [u8], at: usize) -> usize
     ensures within { λ r. ⌜ r ≤ length (now (out .exit)) ⌝ }
 {
     lines::end_line(out, at, number_at_end(p, left_over))
+}
+
+// A piece of the log, read into a room of `full` bytes: the lines of its whole words, and the last line where the run ends in it, by a
+// refusal or because the piece is not full. The last line stands behind the others.
+pub fn run_piece(p: Progress, bytes: &[u8], full: usize, out: &mut [u8]) -> Piece
+    requires { ⌜ Ready p × (32 * length (now bytes) + longest ≤ length (now out)) ⌝ }
+    ensures is { λ r. ⌜ r .progress ≡ wordsFed p (wordsIn (now (bytes .entry))) ⌝ }
+    ensures goes { λ r. ⌜ r .more ≡ goesOn «full» p (now (bytes .entry)) ⌝ }
+    ensures text { λ r. ⌜ Put (now (out .entry)) 0 (pieceText «full» p (now (bytes .entry))) (r .end) (now (out .exit)) ⌝ }
+    ensures ready { λ r. ⌜ Ready (r .progress) ⌝ }
+    ensures within { λ r. ⌜ r .end ≤ length (now (out .exit)) ⌝ }
+{
+    let f = feed(p, bytes, out);
+    let next = f.progress;
+    let end = f.end;
+    if (next.refusal == 0) & (full <= bytes.len()) {
+        return Piece {
+            progress: next,
+            end,
+            more: true,
+        };
+    }
+    let last = finish(next, bytes.len() % 4, out, end);
+    Piece {
+        progress: next,
+        end: last,
+        more: false,
+    }
 }
