@@ -1,4 +1,4 @@
--- The laws of `roundDiv`: nearest, odd, monotone, only, half. Assumes nothing.
+-- The laws of `roundDiv`: halves away from zero, nearest, odd, monotone, only. Assumes nothing.
 use Prim.Native.Nat.{ℕ, zero, suc, _+_, _-_, _*_, _/_, _%_, _≤_, _<_}
 use mathlib.Core.Path.{_≡_, refl, sym, ap, _∙_}
 use native.Mathlib.Omega.{arith}
@@ -66,6 +66,18 @@ abbrev offE : ℤ → ℤ → Exp → Exp
 offE a d q = var (pos 2) ⊗ (var d ⊗ q ⊖ var a)
 
 -- ---- the laws
+
+-- where a / d is q and a half it is q + 1, and of the negative −(q + 1)
+half : (a d q : ℕ) → 0 < d → 2 * a ≡ (2 * q + 1) * d → near a d ≡ suc q
+half a d q h e = sym (near-is a d (suc q) h (omega arith) (omega arith))
+
+pub half-above : (a d q : ℕ) → 0 < d → 2 * a ≡ (2 * q + 1) * d → roundDiv (pos a) (pos d) ≡ pos (suc q)
+unfolding roundDiv
+half-above a d q h e = ap pos (half a d q h e)
+
+pub half-below : (a d q : ℕ) → 0 < d → 2 * suc a ≡ (2 * q + 1) * d → roundDiv (negsuc a) (pos d) ≡ negsuc q
+unfolding roundDiv
+half-below a d q h e = ap (λ (m : ℕ). negℤ (pos m)) (half (suc a) d q h e)
 
 -- the error is at most half the divisor
 pub round-near : (a d : ℤ) → pos 0 <ℤ d → off a d (roundDiv a d) ≤ P d

@@ -12,19 +12,6 @@ use Rattle.integers.specs.Choice.{true-is, false-is}
 use Rattle.integers.specs.Int.{add-is, sub-is, excl, eq-of, ints}
 use Rattle.integers.specs.TwosComplement.{signedOf, bitsOf}
 
--- ---- the code's tests: a word from 0 on is its own bits, another one 2 ^ 32 more
-pub bits-from-zero : (z : ℤ) → leZ (pos 0) z ≡ true → natAbs z ≡ bitsOf z
-unfolding bitsOf
-bits-from-zero (pos n) e = refl
-bits-from-zero (negsuc n) e = absurd (true-is _ e)
-
-pub bits-below-zero : (z : ℤ) → leZ (pos 0) z ≡ false → mag z < 2 ^ 31 → pos (bitsOf z) ≡ z +ℤ pos (2 ^ 32)
-unfolding bitsOf
-bits-below-zero (pos n) e h = absurd (false-is _ (sym (leb·zero n) ∙ e))
-bits-below-zero (negsuc n) e h =
-    let s = negsuc n +ℤ pos (2 ^ 32) in
-    eq-of (pos (2 ^ 32 - suc n)) s (omega (arith, add-is (negsuc n) (pos (2 ^ 32)), excl s))
-
 -- ---- read back
 -- the bits of a signed word of 32 bits are 32 bits, and give the word
 pub bits-lt : (z : ℤ) → mag z < 2 ^ 31 → bitsOf z < 2 ^ 32
@@ -53,3 +40,16 @@ bits-signed w h = go (decLe (2 ^ 31) w)
     go : Dec (2 ^ 31 ≤ w) → bitsOf (cond (ltb w (2 ^ 31)) (pos w) (pos w -ℤ pos (2 ^ 32))) ≡ w
     go (yes l) = rw (le-ltb w (2 ^ 31) l) (minus-bits w (pos w -ℤ pos (2 ^ 32)) refl h)
     go (no n) = rw (lt-ltb w (2 ^ 31) (omega (arith, n)))
+
+-- ---- the code's tests: a word from 0 on is its own bits, another one 2 ^ 32 more
+pub bits-from-zero : (z : ℤ) → leZ (pos 0) z ≡ true → natAbs z ≡ bitsOf z
+unfolding bitsOf
+bits-from-zero (pos n) e = refl
+bits-from-zero (negsuc n) e = absurd (true-is _ e)
+
+pub bits-below-zero : (z : ℤ) → leZ (pos 0) z ≡ false → mag z < 2 ^ 31 → pos (bitsOf z) ≡ z +ℤ pos (2 ^ 32)
+unfolding bitsOf
+bits-below-zero (pos n) e h = absurd (false-is _ (sym (leb·zero n) ∙ e))
+bits-below-zero (negsuc n) e h =
+    let s = negsuc n +ℤ pos (2 ^ 32) in
+    eq-of (pos (2 ^ 32 - suc n)) s (omega (arith, add-is (negsuc n) (pos (2 ^ 32)), excl s))
