@@ -122,8 +122,9 @@ pub fn judged(reported: bool, v: i64) -> Measured
             error: Error::BelowRange,
         };
     }
+    let result = v as i32;
     Measured {
-        result: v as i32,
+        result: result,
         error: Error::None,
     }
 }

@@ -1,5 +1,7 @@
 -- `measurement::judged` meets its contract: each way out is the case of the definition that its tests pick.
 use native.Mathlib.Omega.{arith}
+use mir.Syntax.{w32}
+use mir.Val.{SFits}
 use mir.Facts.{toZ-ofZ}
 use Rattle.integers.specs.Int.{ints, fit}
 use Rattle.measurement.specs.Measure.{judgedOf}
@@ -24,8 +26,8 @@ returns-3 c =
     let u = simp (toZ-ofZ, f) at (c .if3 .taken) in
     simp (c .before .before .if1 .left, t, u)
 
-cast-t7 : tie.Need-cast-t7
-cast-t7 c = omega (arith, ints, fit (c .before .before .before .fits .v))
+cast-result : tie.Need-cast-result
+cast-result c = omega (arith, ints, fit (c .before .before .before .fits .v))
 
 returns-4 : tie.Need-returns-4
 unfolding judgedOf
@@ -33,7 +35,8 @@ returns-4 c =
     let f = c .before .before .before .fits .v in
     let t = simp (toZ-ofZ, f) at (c .before .if2 .left) in
     let u = simp (toZ-ofZ, f) at (c .if3 .left) in
-    rw (toZ-ofZ (cast-t7 c), toZ-ofZ f) (simp (c .before .before .if1 .left, t, u))
+    let g : SFits w32 (c .before .before .before .args .v) = omega (arith, ints, fit f) in
+    simp (toZ-ofZ, f, g, c .before .before .if1 .left, t, u)
 
 pub judged-spec : {M : Type 1} → statement M
-judged-spec = tie.close (tie.spec returns returns-2 returns-3 cast-t7 returns-4)
+judged-spec = tie.close (tie.spec returns returns-2 returns-3 cast-result returns-4)
