@@ -8,7 +8,7 @@ use lib.Ieee.{binary32, inFloat}
 use mir.Syntax.{Width}
 use mir.Val.{SFits, toZ, ofZ}
 use mir.Facts.{toZ-ofZ}
-use Rattle.integers.specs.Int.{abs-is, excl}
+use Rattle.integers.specs.IntLaws.{abs-is, excl}
 use Rattle.analog.specs.AnalogCode.{CodeFits}
 use Rattle.analog.specs.CodeLaws.{fits-small}
 

@@ -8,9 +8,10 @@ use lib.IntN.{ℤ, pos, natAbs, _-ℤ_, _*ℤ_, *ℤ-comm, *ℤ-zero, zero-*ℤ,
 use lib.Signed.{ltZ, _≤ℤ_}
 use mathlib.Core.Bool.{true, false, cond}
 use mathlib.Core.Path.{_≡_, refl, sym, ap, _∙_}
-use Rattle.integers.specs.Int.{ints, Within, within, sub-within, eq-of, excl, sub-is, abs-is, ltZ-true, ltZ-false}
-use Rattle.integers.specs.Ring.{var, _⊖_, _⊗_, ring, lt-ex, nlt-ex, le}
-use Rattle.integers.specs.Choice.{by-test, is-true, is-false}
+use Rattle.integers.specs.IntLaws.{ints, within, sub-within, eq-of, excl, sub-is, abs-is, ltZ-true, ltZ-false}
+use Rattle.integers.specs.Int.{Within}
+use Rattle.integers.specs.RingLaws.{var, _⊖_, _⊗_, ring, lt-ex, nlt-ex, le}
+use Rattle.integers.specs.ChoiceLaws.{by-test, is-true, is-false}
 use Rattle.integers.specs.Round.{roundDiv}
 use Rattle.integers.specs.RoundLaws.{off, round-near, round-exact, not-above}
 use Rattle.integers.specs.Fraction.{Frac}

@@ -10,15 +10,15 @@ use lib.IntN.{ℤ, pos, natAbs, _+ℤ_, _*ℤ_, +ℤ-idr}
 use lib.Signed.{ltZ}
 use lib.Ieee.{Float, binary32, ofInt, lt}
 use lib.Ieee.Exact.{HasValue}
-use Rattle.integers.specs.Int.{ints, abs-is, excl}
+use Rattle.integers.specs.IntLaws.{ints, abs-is, excl}
 use Rattle.analog.specs.declared.Drive.{Drive}
 use Rattle.integers.specs.Fraction.{Same}
 use Rattle.analog.specs.FloatValue.{Is, valueOf}
 use Rattle.analog.specs.AnalogCode.{codeOf, CodeFits}
 use Rattle.analog.specs.CodeLaws.{code-fits}
 use Rattle.analog.specs.Drives.{factor, divisor, offset, analogValue, float, quotientOf, floatOf, Unrounded, driveOf, driveValue}
-use Rattle.analog.specs.ExactSteps.{int-exact, cast-is, product-is, quotient-is, sum-is}
-use Rattle.analog.specs.FloatOrder.{is-same, lt-is, scaled-order, scaled-equal, same-trans, same-sym, same-refl}
+use Rattle.analog.specs.ExactLaws.{int-exact, cast-is, product-is, quotient-is, sum-is}
+use Rattle.analog.specs.FloatLaws.{is-same, lt-is, scaled-order, scaled-equal, same-trans, same-sym, same-refl}
 
 -- ---- no step rounds
 

@@ -2,8 +2,8 @@
 pub mod FloatValue
 pub mod AnalogCode
 pub mod Drives
-pub mod ExactSteps
-pub mod FloatOrder
+pub mod Cases
 pub mod CodeLaws
 pub mod DriveLaws
-pub mod Cases
+pub mod ExactLaws
+pub mod FloatLaws

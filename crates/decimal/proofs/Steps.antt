@@ -9,7 +9,7 @@ use lib.ListN.{length, getD, take, drop, set, length-append, length-set, length-
 use lib.Seq.{drop-cons, drop-set-lt, getD-set-same, take-all}
 use borrow.Rule.Slice.PartMut.{putMid}
 use Rattle.decimal.specs.Decimal.{largest, digit, minus, digitsOf, valueFrom}
-use Rattle.decimal.specs.Bytes.{isDigit, allDigits}
+use Rattle.decimal.specs.ByteSteps.{isDigit, allDigits}
 use Rattle.decimal.specs.DigitLaws.{digits-small, digits-more, both-true}
 
 -- ---- writing

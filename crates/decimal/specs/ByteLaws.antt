@@ -9,7 +9,7 @@ use lib.Dec.{ltb, eqb, lit<}
 use lib.ListN.{length, getD}
 use borrow.Author.Tests.{ltb-false, le-ltb, eqb-true, eqb-false, eq-eqb, ne-eqb}
 use Rattle.decimal.specs.Decimal.{largest, digitsOf, valueFrom}
-use Rattle.decimal.specs.Bytes.{isDigit, allDigits, isNatural}
+use Rattle.decimal.specs.ByteSteps.{isDigit, allDigits, isNatural}
 use Rattle.decimal.specs.DigitLaws.{digits-some, digits-small, digits-few, digits-all, digits-lead, digits-value, value-below, all-head, all-tail, digit-from, digit-to}
 
 -- what a text that passes is

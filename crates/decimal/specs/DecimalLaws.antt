@@ -8,11 +8,12 @@ use lib.Dec.{leb, eqb}
 use lib.IntN.{ℤ, pos, negsuc, negℤ, natAbs}
 use lib.ListN.{length}
 use borrow.Author.Tests.{leb-true, le-leb, eqb-true, eq-eqb, ne-eqb}
-use Rattle.integers.specs.Int.{P, N, Within, excl, abs-is}
+use Rattle.integers.specs.Int.{P, N, Within}
+use Rattle.integers.specs.IntLaws.{excl, abs-is}
 use Rattle.decimal.specs.declared.Parsed.{Parsed}
 use Rattle.decimal.specs.declared.Parsed.the-variants.{Number, Malformed}
 use Rattle.decimal.specs.Decimal.{largest, minus, digitsOf, textOf, valueFrom, numberIn, sameText, parsedOf}
-use Rattle.decimal.specs.Bytes.{allDigits}
+use Rattle.decimal.specs.ByteSteps.{allDigits}
 use Rattle.decimal.specs.DigitLaws.{digits-some, digits-few, digits-all, value-digits, all-head, digit-from, both-true, and-true}
 
 -- ---- a text's length

@@ -10,7 +10,7 @@ use lib.Dec.{ltb, leb}
 use lib.ListN.{length, getD, length-append, List·getD-append}
 use borrow.Author.Tests.{ltb-true, ltb-false, lt-ltb, le-ltb, leb-true, le-leb}
 use Rattle.decimal.specs.Decimal.{largest, digit, digitsIn, digitsOf, valueFrom}
-use Rattle.decimal.specs.Bytes.{isDigit, allDigits}
+use Rattle.decimal.specs.ByteSteps.{isDigit, allDigits}
 
 pub shorter : (n : ℕ) → 10 ≤ n → n / 10 < n
 shorter n h = div-lt-self (omega arith) (omega arith)

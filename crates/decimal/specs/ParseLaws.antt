@@ -6,10 +6,11 @@ use mathlib.Core.List.{List, _∷_}
 use native.Mathlib.Omega.{arith}
 use lib.IntN.{ℤ, pos, negsuc, _-ℤ_}
 use lib.ListN.{length}
-use Rattle.integers.specs.Int.{Within, eq-of, sub-is}
+use Rattle.integers.specs.Int.{Within}
+use Rattle.integers.specs.IntLaws.{eq-of, sub-is}
 use Rattle.decimal.specs.declared.Parsed.the-variants.{Number, Malformed}
 use Rattle.decimal.specs.Decimal.{largest, minus, digitsOf, textOf, valueFrom, parsedOf}
-use Rattle.decimal.specs.Bytes.{isNatural}
+use Rattle.decimal.specs.ByteSteps.{isNatural}
 use Rattle.decimal.specs.DigitLaws.{digits-all, value-digits}
 use Rattle.decimal.specs.ByteLaws.{digits-pass, pass-digits, pass-range}
 use Rattle.decimal.specs.DecimalLaws.{text-not-empty, digits-no-minus, written-is-read, others-malformed}

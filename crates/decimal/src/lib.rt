@@ -7,7 +7,7 @@ ghost use Prim.Native.Nat.{_≤_};
 ghost use lib.ListN.{length, drop};
 ghost use Rattle.integers.specs.Int.{Within};
 ghost use Rattle.decimal.specs.Decimal.{largest, minus, digitsOf, textOf, valueFrom, parsedOf};
-ghost use Rattle.decimal.specs.Bytes.{allDigits, isNatural};
+ghost use Rattle.decimal.specs.ByteSteps.{allDigits, isNatural};
 
 // What a text is read as.
 pub enum Parsed {

@@ -9,7 +9,7 @@ use native.Mathlib.Omega.{arith}
 use borrow.Author.Tests.{eqb-true, ltb-false}
 use lib.Dec.{T, eqb, ltb}
 use lib.IntN.{ℤ, pos}
-use Rattle.integers.specs.Choice.{by-test, is-true, is-false}
+use Rattle.integers.specs.ChoiceLaws.{by-test, is-true, is-false}
 use Rattle.integers.specs.Limit.{Z}
 use Rattle.parameters.specs.Slots.{withOffset}
 use Rattle.parameters.specs.StoreLaws.{valid-offset, valid-preselection}

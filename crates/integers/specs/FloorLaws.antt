@@ -9,8 +9,9 @@ use native.Mathlib.Decide.{decLe}
 use lib.Arith.{digits-mod}
 use lib.IntN.{ℤ, pos, negsuc, negℤ, _+ℤ_, _*ℤ_}
 use lib.Signed.{leZ, ltZ, remZ, shrZ, _≤ℤ_, _<ℤ_}
-use Rattle.integers.specs.Int.{P, ints, neg-P, neg-N, add-is}
-use Rattle.integers.specs.Ring.{var, _⊕_, _⊗_, neg, val, ring, ring-to, le-in, mul-mono}
+use Rattle.integers.specs.Int.{P}
+use Rattle.integers.specs.IntLaws.{ints, neg-P, neg-N, add-is}
+use Rattle.integers.specs.RingLaws.{var, _⊕_, _⊗_, neg, val, ring, ring-to, le-in, mul-mono}
 use Rattle.integers.specs.Round.{floorMod}
 
 -- one more: the remainder is one more, or turns over

@@ -1,12 +1,14 @@
 -- The modules of this crate's definitions and laws, in the order in which to read them.
-pub mod Choice
-pub mod TestLaws
 pub mod Limit
-pub mod Int
-pub mod Ring
 pub mod Round
-pub mod TwosComplement
 pub mod Fraction
+pub mod TwosComplement
+pub mod Int
+pub mod Choice
+pub mod ChoiceLaws
+pub mod TestLaws
+pub mod IntLaws
+pub mod RingLaws
 pub mod RoundLaws
 pub mod FloorLaws
 pub mod TwosComplementLaws

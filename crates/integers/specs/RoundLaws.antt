@@ -6,8 +6,9 @@ use native.Mathlib.Nat.{div-add-mod', mod-lt, div-zero, mul-le-mul-right, le-ant
 use native.Mathlib.Decide.{decLe}
 use lib.IntN.{ℤ, pos, negsuc, negℤ, natAbs, negℤ-negℤ, _+ℤ_, _-ℤ_, _*ℤ_}
 use lib.Signed.{quotZ, remZ, _≤ℤ_, _<ℤ_}
-use Rattle.integers.specs.Int.{P, N, excl, ints, neg-P, neg-N, Within, abs-is}
-use Rattle.integers.specs.Ring.{Exp, var, _⊕_, _⊖_, _⊗_, neg, val, up, dn, halves, ring, le}
+use Rattle.integers.specs.Int.{P, N, Within}
+use Rattle.integers.specs.IntLaws.{excl, ints, neg-P, neg-N, abs-is}
+use Rattle.integers.specs.RingLaws.{Exp, var, _⊕_, _⊖_, _⊗_, neg, val, up, dn, halves, ring, le}
 use Rattle.integers.specs.Round.{roundDiv}
 
 -- ---- on ℕ: ⌊n / d + 1/2⌋ is the q with 2 q d ≤ 2 n + d < 2 q d + 2 d

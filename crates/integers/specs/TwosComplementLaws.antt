@@ -8,8 +8,8 @@ use borrow.Author.Tests.{lt-ltb, le-ltb}
 use lib.Dec.{ltb, leb·zero}
 use lib.IntN.{ℤ, pos, negsuc, natAbs, _+ℤ_, _-ℤ_}
 use lib.Signed.{mag, leZ}
-use Rattle.integers.specs.Choice.{true-is, false-is}
-use Rattle.integers.specs.Int.{add-is, sub-is, excl, eq-of, ints}
+use Rattle.integers.specs.ChoiceLaws.{true-is, false-is}
+use Rattle.integers.specs.IntLaws.{add-is, sub-is, excl, eq-of, ints}
 use Rattle.integers.specs.TwosComplement.{signedOf, bitsOf}
 
 -- ---- read back

@@ -9,8 +9,8 @@ use native.Mathlib.Omega.{arith}
 use lib.Dec.{T, leb, leb→le, nleb→lt}
 use lib.IntN.{ℤ, pos, natAbs, _+ℤ_, _-ℤ_, _*ℤ_}
 use lib.Signed.{leZ, ltZ, nonNeg}
-use Rattle.integers.specs.Choice.{by-test}
-use Rattle.integers.specs.Ring.{Exp, var, lit, _⊕_, _⊖_, _⊗_, neg, val, up, dn, ring, abs-ex, abs-plus, abs-times, le-ex, lt-ex, nlt-ex, le-by, nonNeg-N, negative-P}
+use Rattle.integers.specs.ChoiceLaws.{by-test}
+use Rattle.integers.specs.RingLaws.{Exp, var, lit, _⊕_, _⊖_, _⊗_, neg, val, up, dn, ring, abs-ex, abs-plus, abs-times, le-ex, lt-ex, nlt-ex, le-by, nonNeg-N, negative-P}
 use Rattle.integers.specs.Fraction.{Frac, Ratio, atMost, whole, minus, gap}
 use Rattle.measurement.specs.Curve.{Point, before, line, rightOf, fourQuadrants, oneQuadrant, slope, larger, steepestFrom, rising, origin}
 

@@ -7,8 +7,7 @@ ghost use Rattle.integers.specs.Int.{Within};
 ghost use Rattle.integers.specs.Fraction.{whole, nearest};
 ghost use Rattle.measurement.specs.Curve.{highestOf, lineValue, pointsFrom, fourQuadrants, oneQuadrant, linearizedOf};
 ghost use Rattle.measurement.specs.Measure.{errorNumber, directedOf, distanceOf, scaledOf, judgedOf, measuredOf};
-ghost use Rattle.measurement.specs.Search.{OnLine, Usable};
-ghost use Rattle.measurement.specs.Range.{Linearizable, Sound};
+ghost use Rattle.measurement.specs.Sound.{OnLine, Usable, Linearizable, Sound};
 
 // What is wrong with a reading.
 pub enum Error {

@@ -11,7 +11,7 @@ use Rattle.state.specs.Valid.{Good}
 use Rattle.state.specs.ValidLaws.{good-received}
 use Rattle.events.specs.declared.Event.{Event}
 use Rattle.events.specs.declared.Event.the-variants.{Telegram, Levels, Tick}
-use Rattle.integers.specs.Choice.{by-test}
+use Rattle.integers.specs.ChoiceLaws.{by-test}
 use Rattle.reading.specs.Reading.{acceptsOf}
 use Rattle.settings.specs.Settings.{preselectionsOf}
 use Rattle.switching.specs.Switching.{allSwitched, allTicked}

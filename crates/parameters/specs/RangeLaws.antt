@@ -9,7 +9,8 @@ use lib.Dec.{ltb, leb, eqb}
 use lib.IntN.{ℤ, pos, negℤ}
 use lib.Signed.{leZ, _<ℤ_}
 use Rattle.integers.specs.Limit.{Z}
-use Rattle.integers.specs.Int.{P, excl, Within, within, leZ-true, leZ-false, lt-of}
+use Rattle.integers.specs.Int.{P, Within}
+use Rattle.integers.specs.IntLaws.{excl, within, leZ-true, leZ-false, lt-of}
 use Rattle.parameters.specs.Rows.{low, high, rowOf, rowAt, inRange, whole}
 use Rattle.parameters.specs.Slots.{wordAt, natAt, resolution, bitsPerTurn, format, highBit, lowBit, offset, direction, roundLoop, errorBit, errorLevel, factor, divider, additive, linearization, analogFormat, analogStart, analogEnd, preselection, mode, hysteresis, pulse, target, polarity, lock, startup, action, config, pointsInUse, pointX, pointY}
 use Rattle.integers.specs.Choice.{some}

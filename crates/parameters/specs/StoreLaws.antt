@@ -12,8 +12,9 @@ use lib.ListN.{length, getD, set, length-set}
 use lib.Seq.{getD-set-same, getD-set-other}
 use lib.Signed.{leZ}
 use Rattle.integers.specs.Limit.{Z}
-use Rattle.integers.specs.Choice.{is-true}
-use Rattle.integers.specs.Int.{Within, le-of}
+use Rattle.integers.specs.ChoiceLaws.{is-true}
+use Rattle.integers.specs.Int.{Within}
+use Rattle.integers.specs.IntLaws.{le-of}
 use Rattle.parameters.specs.Rows.{rowOf, rowAt, inRange}
 use Rattle.parameters.specs.Slots.{wordAt, offsetSlot, preselectionSlot, offset, preselection, withWord, withOffset, withPreselection, layoutSlots, scalingSlots, spanSlots, preselectionSlots, inputSlots, firstPointSlot}
 use Rattle.parameters.specs.Alike.{Alike, storedSlot, misses, MissesFrom}

@@ -10,13 +10,14 @@ use lib.Dec.{eqb}
 use lib.IntN.{ℤ, pos, negℤ}
 use lib.Signed.{ltZ}
 use Rattle.integers.specs.Limit.{Z}
-use Rattle.integers.specs.Choice.{by-test}
-use Rattle.integers.specs.Int.{excl, Within, within}
-use Rattle.integers.specs.Ring.{var, neg, lit, nlt-ex}
+use Rattle.integers.specs.ChoiceLaws.{by-test}
+use Rattle.integers.specs.IntLaws.{excl, within}
+use Rattle.integers.specs.Int.{Within}
+use Rattle.integers.specs.RingLaws.{var, neg, lit, nlt-ex}
 use Rattle.integers.specs.Fraction.{Accurate}
 use Rattle.measurement.specs.declared.Error.the-variants as Error
 use Rattle.measurement.specs.declared.Measured.{Measured}
-use Rattle.measurement.specs.Accuracy.{reading-accurate}
+use Rattle.measurement.specs.AccuracyLaws.{reading-accurate}
 use Rattle.measurement.specs.Measure.{errorNumber, measured, judgedOf, valueOf, measuredOf}
 use Rattle.parameters.specs.Valid.{Valid}
 use Rattle.settings.specs.Settings.{scalingOf, pointsOf}

@@ -14,7 +14,7 @@ use Rattle.inputs.specs.Commands.{resetOf, teachOf}
 use Rattle.state.specs.ValidLaws.{good-fresh}
 use Rattle.state.specs.State.{stateOf, freshOf, rereadOf}
 use Rattle.state.specs.Valid.{Good}
-use Rattle.integers.specs.Choice.{by-test, is-true}
+use Rattle.integers.specs.ChoiceLaws.{by-test, is-true}
 use Rattle.modbus.specs.declared.Request.{Request}
 use Rattle.modbus.specs.declared.Request.the-variants.{Broken, Ignored, Exception, Read, Write}
 use Rattle.modbus.specs.declared.Demand.{Demand}

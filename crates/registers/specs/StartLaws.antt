@@ -10,7 +10,7 @@ use lib.IntN.{ℤ}
 use Rattle.state.specs.ValidLaws.{good-fresh}
 use Rattle.state.specs.State.{freshOf}
 use Rattle.state.specs.Valid.{Good}
-use Rattle.integers.specs.Choice.{by-test, is-true}
+use Rattle.integers.specs.ChoiceLaws.{by-test, is-true}
 use Rattle.integers.specs.TestLaws.{and-both}
 use Rattle.panel.specs.declared.Loaded.{Loaded}
 use Rattle.panel.specs.Load.{loadedOf}

@@ -9,7 +9,7 @@ use lib.Dec.{T, eqb, leb}
 use lib.IntN.{ℤ, pos}
 use Rattle.events.specs.declared.Event.{Event}
 use Rattle.events.specs.declared.Event.the-variants.{Telegram, Levels, Tick}
-use Rattle.integers.specs.Choice.{by-test, is-true, is-false}
+use Rattle.integers.specs.ChoiceLaws.{by-test, is-true, is-false}
 use Rattle.parameters.specs.Slots.{offsetSlot, preselectionSlot, offset}
 use Rattle.parameters.specs.StoreLaws.{word-kept, offset-stored, stored-layout, stored-scaling, stored-input}
 use Rattle.reading.specs.declared.Basis.{Basis}

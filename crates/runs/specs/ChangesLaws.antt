@@ -14,7 +14,7 @@ use Rattle.inputs.specs.Levels.{edgeAt, inputOf, commandsOf}
 use Rattle.state.specs.State.{freshOf, withLevels, withSwitches, rereadOf, receivedOf}
 use Rattle.events.specs.declared.Event.{Event}
 use Rattle.events.specs.declared.Event.the-variants.{Telegram, Levels, Tick}
-use Rattle.integers.specs.Choice.{by-test}
+use Rattle.integers.specs.ChoiceLaws.{by-test}
 use Rattle.parameters.specs.Slots.{offsetSlot, preselectionSlot, withOffset}
 use Rattle.parameters.specs.StoreLaws.{word-kept, offset-alike, stored-input, stored-preselection}
 use Rattle.reading.specs.Reading.{acceptsOf}

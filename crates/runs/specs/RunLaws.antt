@@ -8,7 +8,7 @@ use lib.ListN.{length, getD, drop, drop-of-length-le}
 use lib.Seq.{drop-cons}
 use Rattle.events.specs.declared.Event.{Event}
 use Rattle.events.specs.declared.Event.the-variants.{Telegram, Levels, Tick}
-use Rattle.integers.specs.Choice.{by-test}
+use Rattle.integers.specs.ChoiceLaws.{by-test}
 use Rattle.reading.specs.Reading.{acceptsOf}
 use Rattle.panel.specs.declared.Answer.{Answer}
 use Rattle.state.specs.declared.State.{State}

@@ -4,7 +4,7 @@ use mathlib.Core.Bool.{cond}
 use Prim.Native.Nat.{ℕ, zero, suc, _+_, _≤_, _<_}
 use native.Mathlib.Omega.{arith}
 use lib.Dec.{eqb}
-use Rattle.integers.specs.Choice.{by-test}
+use Rattle.integers.specs.ChoiceLaws.{by-test}
 use Rattle.settings.specs.declared.Action.{Action}
 use Rattle.settings.specs.declared.Action.the-variants.{None, Reset, Freeze, ClearLocks, ClearExtremes, Teach}
 use Rattle.settings.specs.Settings.{Aimed, actionOf, actionNumber, configOf, configNumber}

@@ -14,9 +14,9 @@ use Rattle.integers.specs.Limit.{Z}
 use Rattle.integers.specs.Int.{Within}
 use Rattle.measurement.specs.Curve.{pointAt, pointsFrom, rising, origin, Ordered}
 use Rattle.measurement.specs.Measure.{usedPoints}
-use Rattle.measurement.specs.Range.{Linearizable}
-use Rattle.measurement.specs.Range as range
-use Rattle.measurement.specs.Search.{Usable, rising-list}
+use Rattle.measurement.specs.Sound.{Linearizable, Usable}
+use Rattle.measurement.specs.Sound as measurement
+use Rattle.measurement.specs.SearchLaws.{rising-list}
 use Rattle.parameters.specs.Rows.{rowAt, rowOf}
 use Rattle.parameters.specs.Slots as slot
 use Rattle.parameters.specs.RangeLaws as ranges
@@ -93,7 +93,7 @@ module _ {t : List ℤ} (v : Valid t) where
         rises = λ j h. rw (point-x j, point-x (suc j)) (rw add-one at (ranges.points-rise v on j (rw add-one h)) .lt);
       }
 
-  pub scaling-sound : range.Sound (scalingOf t) (pointsOf t)
+  pub scaling-sound : measurement.Sound (scalingOf t) (pointsOf t)
   unfolding scalingOf
   scaling-sound =
       record {

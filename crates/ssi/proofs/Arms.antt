@@ -14,7 +14,7 @@ use Rattle.ssi.specs.Builder.{coded, levelAsked, telegramOf}
 use Rattle.ssi.specs.FieldLaws.{clear-is}
 use Rattle.ssi.specs.PartLaws.{without-cleared, coded-lt, mark-is}
 use Rattle.ssi.specs.SoundLaws.{field-fits}
-use Rattle.ssi.specs.ReadBackLaws.{asked-lt, field-apart}
+use Rattle.ssi.specs.BuildLaws.{asked-lt, field-apart}
 
 less : (k : ℕ) → suc k - 1 ≡ k
 less k = omega arith

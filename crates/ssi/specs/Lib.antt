@@ -2,9 +2,9 @@
 pub mod Sound
 pub mod Telegram
 pub mod Builder
-pub mod ReadBack
-pub mod SoundLaws
 pub mod ReadBackLaws
+pub mod BuildLaws
+pub mod SoundLaws
 pub mod PartLaws
 pub mod GrayLaws
 pub mod FieldLaws

@@ -7,7 +7,8 @@ use native.Mathlib.Omega.{arith}
 use native.Mathlib.Decide.{decLe}
 use lib.IntN.{ℤ, pos, _-ℤ_, _*ℤ_}
 use lib.Signed.{leZ, ltZ}
-use Rattle.integers.specs.Int.{ints, excl, sub-is, abs-is, Within, sub-within}
+use Rattle.integers.specs.IntLaws.{ints, excl, sub-is, abs-is, sub-within}
+use Rattle.integers.specs.Int.{Within}
 use Rattle.switching.specs.Condition.{byMode, magnitudeOf, onAbove, onBelow, onNear, compared, against, ruleOf}
 
 -- ---- a number without its sign

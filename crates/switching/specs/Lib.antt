@@ -9,4 +9,4 @@ pub mod ConditionLaws
 pub mod TravelLaws
 pub mod SwitchingLaws
 pub mod OutputLaws
-pub mod Marks
+pub mod MarkSteps

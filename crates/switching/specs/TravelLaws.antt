@@ -11,7 +11,7 @@ use lib.Dec.{T}
 use lib.IntN.{ℤ, pos, negsuc, negℤ, natAbs, _+ℤ_, _-ℤ_}
 use lib.Signed.{leZ, ltZ}
 use Rattle.integers.specs.Int.{P}
-use Rattle.integers.specs.Ring.{var, lit, _⊕_, _⊖_, neg, abs-ex, pos-ex, le-ex, lt-ex, le-by, lt-by}
+use Rattle.integers.specs.RingLaws.{var, lit, _⊕_, _⊖_, neg, abs-ex, pos-ex, le-ex, lt-ex, le-by, lt-by}
 use Rattle.switching.specs.Condition.{byMode, magnitudeOf, latchedOf, onAbove, onBelow, compared, against, ruleOf, conditionOf}
 use Rattle.switching.specs.Travel.{Seen, travel, changed, changes, hysteretic}
 

@@ -2,7 +2,7 @@
 use crate::Preselection;
 use crate::Switch;
 ghost use mathlib.Core.Path.{_≡_};
-ghost use Rattle.switching.specs.Marks.{markOf, shareOf};
+ghost use Rattle.switching.specs.MarkSteps.{markOf, shareOf};
 ghost use Rattle.switching.specs.Outputs.{levelOf, outputsOf};
 
 // The mark of a preselection: 1 where it is active, and 2 more where it is active low.

@@ -10,7 +10,7 @@ use lib.ListN.{length, getD}
 use borrow.Author.Tests.{ltb-true, lt-ltb, ne-eqb}
 use Rattle.integers.specs.Int.{Within}
 use Rattle.decimal.specs.Decimal.{largest, textOf, digitsOf}
-use Rattle.decimal.specs.Bytes.{allDigits}
+use Rattle.decimal.specs.ByteSteps.{allDigits}
 use Rattle.decimal.specs.DigitLaws.{both-true, digits-all, digits-some, digit-from, all-head, all-tail}
 use Rattle.text.specs.Marks.{space, carriageReturn}
 use Rattle.text.specs.Words.{partsOf, filled, wordsOf, trimmedOf}

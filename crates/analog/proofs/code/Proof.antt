@@ -4,7 +4,7 @@ use mathlib.Core.Path.{_≡_}
 use lib.Dec.{lit<}
 use mir.Syntax.{w64}
 use mir.Facts.{toZ-ofZ}
-use Rattle.integers.specs.Int.{bk, back-at, fits-within}
+use Rattle.integers.specs.IntLaws.{bk, back-at, fits-within}
 use Rattle.analog.specs.AnalogCode.{codeOf}
 use Rattle.analog.specs.CodeLaws.{code-fits, fits-small}
 use Rattle.analog.proofs.code.Statement.{statement}

@@ -1,7 +1,7 @@
 -- `analog::lower` meets its contract: the difference of two 32-bit numbers fits, and the smaller is taken from the larger.
 use native.Mathlib.Omega.{arith}
 use mir.Facts.{toZ-ofZ}
-use Rattle.integers.specs.Int.{ints, fit}
+use Rattle.integers.specs.IntLaws.{ints, fit}
 use Rattle.analog.specs.CodeLaws.{lower-mirrored, lower-kept}
 use Rattle.analog.proofs.lower.Statement.{statement}
 use Rattle.analog.proofs.lower.Tie as tie

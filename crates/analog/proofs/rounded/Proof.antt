@@ -6,7 +6,7 @@ use lib.Dec.{lit<}
 use lib.IntN.{pos}
 use mir.Syntax.{w64}
 use mir.Facts.{toZ-ofZ}
-use Rattle.integers.specs.Int.{bk, back-at, size, mul-fits}
+use Rattle.integers.specs.IntLaws.{bk, back-at, size, mul-fits}
 use Rattle.analog.specs.AnalogCode.{upperOf, fullScale}
 use Rattle.analog.specs.CodeLaws.{scale-small, upper-within}
 use Rattle.analog.proofs.rounded.Statement.{statement}

@@ -1,7 +1,7 @@
 -- `analog::upper` meets its contract: the difference of two 32-bit numbers fits, and the test is the one that the definition chooses by.
 use native.Mathlib.Omega.{arith}
 use mir.Facts.{toZ-ofZ}
-use Rattle.integers.specs.Int.{ints, fit}
+use Rattle.integers.specs.IntLaws.{ints, fit}
 use Rattle.analog.proofs.upper.Statement.{statement}
 use Rattle.analog.proofs.upper.Tie as tie
 

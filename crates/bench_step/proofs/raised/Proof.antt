@@ -2,7 +2,7 @@
 use native.Mathlib.Omega.{arith}
 use lib.IntN.{pos, _+ℤ_}
 use mir.Syntax.{w32, w64}
-use Rattle.integers.specs.Int.{ints, fit, bk, excl, add-is, abs-is}
+use Rattle.integers.specs.IntLaws.{ints, fit, bk, excl, add-is, abs-is}
 use Rattle.bench_step.proofs.raised.Statement.{statement}
 use Rattle.bench_step.proofs.raised.Tie as tie
 

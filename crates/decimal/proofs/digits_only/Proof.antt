@@ -4,7 +4,7 @@ use mathlib.Core.Path.{_≡_, refl, sym, _∙_}
 use native.Mathlib.Omega.{arith}
 use lib.ListN.{length, getD, drop}
 use borrow.Author.Tests.{le-leb, lt-leb}
-use Rattle.decimal.specs.Bytes.{allDigits}
+use Rattle.decimal.specs.ByteSteps.{allDigits}
 use Rattle.decimal.proofs.Steps.{all-drop, all-end}
 use Rattle.decimal.proofs.digits_only.Statement.{statement}
 use Rattle.decimal.proofs.digits_only.Tie as tie

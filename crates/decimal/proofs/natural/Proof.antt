@@ -3,7 +3,7 @@ use native.Mathlib.Omega.{arith}
 use lib.ListN.{length}
 use borrow.Author.Tests.{lt-ltb, le-ltb, eq-eqb, ne-eqb}
 use Rattle.decimal.specs.Decimal.{mostDigits}
-use Rattle.decimal.specs.Bytes.{isNatural}
+use Rattle.decimal.specs.ByteSteps.{isNatural}
 use borrow.Author.Needs.{needs}
 use Rattle.decimal.proofs.natural.Statement.{statement}
 use Rattle.decimal.proofs.natural.Tie as tie

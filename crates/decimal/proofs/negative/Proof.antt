@@ -4,8 +4,8 @@ use mathlib.Core.Bool.{true}
 use native.Mathlib.Omega.{arith}
 use lib.IntN.{pos}
 use mir.Facts.{toZ-ofZ}
-use Rattle.integers.specs.Int.{ints, fit}
-use Rattle.decimal.specs.Bytes.{isNatural}
+use Rattle.integers.specs.IntLaws.{ints, fit}
+use Rattle.decimal.specs.ByteSteps.{isNatural}
 use Rattle.decimal.specs.ByteLaws.{pass-range}
 use Rattle.decimal.specs.ParseLaws.{negative-read, negative-malformed, minus-zero-malformed}
 use borrow.Author.Needs.{needs}

@@ -7,9 +7,9 @@ use native.Mathlib.Omega.{arith}
 use lib.IntN.{pos}
 use lib.ListN.{getD}
 use mir.Facts.{toZ-ofZ}
-use Rattle.integers.specs.Int.{ints}
+use Rattle.integers.specs.IntLaws.{ints}
 use Rattle.decimal.specs.Decimal.{minus, parsedOf}
-use Rattle.decimal.specs.Bytes.{isNatural}
+use Rattle.decimal.specs.ByteSteps.{isNatural}
 use Rattle.decimal.specs.ByteLaws.{pass-range}
 use Rattle.decimal.specs.ParseLaws.{empty-malformed, natural-read, natural-malformed}
 use Rattle.decimal.proofs.Steps.{rest-all, by-first}

@@ -5,7 +5,7 @@ use mathlib.Core.Bool.{true}
 use native.Mathlib.Omega.{arith}
 use lib.ListN.{length, getD, drop}
 use Rattle.decimal.specs.Decimal.{largest, valueFrom}
-use Rattle.decimal.specs.Bytes.{isDigit}
+use Rattle.decimal.specs.ByteSteps.{isDigit}
 use Rattle.decimal.specs.DigitLaws.{digit-from, value-grows}
 use Rattle.decimal.specs.ByteLaws.{natural-parts, pass-range}
 use Rattle.decimal.proofs.Steps.{all-at, value-drop, value-end}

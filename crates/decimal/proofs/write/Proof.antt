@@ -5,7 +5,8 @@ use native.Mathlib.Omega.{arith}
 use lib.IntN.{pos, natAbs, _-ℤ_}
 use lib.ListN.{length-drop}
 use mir.Syntax.{w64}
-use Rattle.integers.specs.Int.{P, N, bk, ints, fit, excl, sub-is, abs-is}
+use Rattle.integers.specs.Int.{P, N}
+use Rattle.integers.specs.IntLaws.{bk, ints, fit, excl, sub-is, abs-is}
 use Rattle.decimal.specs.Decimal.{digitsOf}
 use Rattle.decimal.specs.DigitLaws.{digits-few}
 use Rattle.decimal.specs.DecimalLaws.{text-natural, text-negative}

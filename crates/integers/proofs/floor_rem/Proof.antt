@@ -8,7 +8,8 @@ use lib.Signed.{leZ, ltZ, remZ}
 use mir.Syntax.{w64}
 use mir.Val.{SFits}
 use mir.Facts.{toZ-ofZ}
-use Rattle.integers.specs.Int.{P, N, ints, fit, div-ok, rem-fits, division}
+use Rattle.integers.specs.Int.{P, N}
+use Rattle.integers.specs.IntLaws.{ints, fit, div-ok, rem-fits, division}
 use Rattle.integers.specs.FloorLaws.{rem-keep, rem-turn, rem-none}
 use Rattle.integers.proofs.floor_rem.Statement.{statement}
 use Rattle.integers.proofs.floor_rem.Tie as tie

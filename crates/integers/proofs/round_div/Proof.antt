@@ -7,7 +7,8 @@ use lib.Signed.{remZ}
 use mir.Syntax.{w64}
 use mir.Val.{SFits}
 use mir.Facts.{toZ-ofZ}
-use Rattle.integers.specs.Int.{P, N, ints, fit, again, bk, div-ok, rem-fits, Division, division, sub-is, add-is}
+use Rattle.integers.specs.Int.{P, N}
+use Rattle.integers.specs.IntLaws.{ints, fit, again, bk, div-ok, rem-fits, Division, division, sub-is, add-is}
 use Rattle.integers.specs.RoundLaws.{quot-up, quot-keep, quot-down, not-above}
 use Rattle.integers.proofs.round_div.Statement.{statement}
 use Rattle.integers.proofs.round_div.Tie as tie

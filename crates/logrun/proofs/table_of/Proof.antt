@@ -5,7 +5,7 @@ use Prim.Native.Nat.{_-_, _*_, _≤_}
 use native.Mathlib.Omega.{arith}
 use lib.ListN.{length, take, drop, length-set}
 use mir.Syntax.{w32}
-use Rattle.integers.specs.Int.{bk, back-at}
+use Rattle.integers.specs.IntLaws.{bk, back-at}
 use Rattle.events.specs.Bytes.{wordsIn}
 use Rattle.integers.specs.TwosComplement.{signedOf}
 use Rattle.logrun.specs.Input.{tableBytes, tableOf}

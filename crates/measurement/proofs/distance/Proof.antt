@@ -4,7 +4,7 @@ use borrow.Author.Tests.{eq-eqb, ne-eqb}
 use native.Mathlib.Omega.{arith}
 use mir.Syntax.{w64}
 use mir.Facts.{toZ-ofZ, toZ-pos}
-use Rattle.integers.specs.Int.{ints, fit, back-at}
+use Rattle.integers.specs.IntLaws.{ints, fit, back-at}
 use Rattle.measurement.specs.Measure.{distanceOf}
 use Rattle.measurement.proofs.distance.Statement.{statement}
 use Rattle.measurement.proofs.distance.Tie as tie

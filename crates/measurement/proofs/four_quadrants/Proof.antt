@@ -7,10 +7,10 @@ use lib.ListN.{getD}
 use mir.Syntax.{w32, w64}
 use mir.Val.{SFits}
 use mir.Facts.{toZ-ofZ}
-use Rattle.integers.specs.Int.{ints, back-at}
+use Rattle.integers.specs.IntLaws.{ints, back-at}
 use Rattle.integers.specs.RoundLaws.{round-one}
 use Rattle.integers.specs.Fraction.{nearest}
-use Rattle.measurement.specs.Search.{value-none}
+use Rattle.measurement.specs.SearchLaws.{value-none}
 use Rattle.measurement.proofs.four_quadrants.Statement.{statement}
 use Rattle.measurement.proofs.four_quadrants.Tie as tie
 

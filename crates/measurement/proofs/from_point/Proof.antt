@@ -8,10 +8,10 @@ use lib.ListN.{length, getD}
 use mir.Syntax.{w32, w64}
 use mir.Val.{SFits}
 use mir.Facts.{toZ-ofZ}
-use Rattle.integers.specs.Int.{ints, back-at}
+use Rattle.integers.specs.IntLaws.{ints, back-at}
 use Rattle.integers.specs.RoundLaws.{round-one}
 use Rattle.integers.specs.Fraction.{nearest}
-use Rattle.measurement.specs.Search.{found-at, value-last, value-words, on-words}
+use Rattle.measurement.specs.SearchLaws.{found-at, value-last, value-words, on-words}
 use Rattle.measurement.proofs.from_point.Statement.{statement}
 use Rattle.measurement.proofs.from_point.Tie as tie
 

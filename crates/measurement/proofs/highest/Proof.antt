@@ -10,9 +10,9 @@ use lib.Signed.{leZ}
 use mir.Syntax.{w32, w64}
 use mir.Val.{toZ}
 use mir.Facts.{toZ-ofZ}
-use Rattle.integers.specs.Int.{bk, fits-of, fit-at, back-at}
+use Rattle.integers.specs.IntLaws.{bk, fits-of, fit-at, back-at}
 use Rattle.measurement.specs.Curve.{pointAt, highestOf}
-use Rattle.measurement.specs.Search.{last-first}
+use Rattle.measurement.specs.SearchLaws.{last-first}
 use Rattle.measurement.specs.declared.Found.the-variants.{At}
 use Rattle.measurement.proofs.highest.Statement.{statement}
 use Rattle.measurement.proofs.highest.Tie as tie

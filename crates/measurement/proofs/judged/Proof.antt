@@ -3,7 +3,7 @@ use native.Mathlib.Omega.{arith}
 use mir.Syntax.{w32}
 use mir.Val.{SFits}
 use mir.Facts.{toZ-ofZ}
-use Rattle.integers.specs.Int.{ints, fit}
+use Rattle.integers.specs.IntLaws.{ints, fit}
 use Rattle.measurement.specs.Measure.{judgedOf}
 use Rattle.measurement.proofs.judged.Statement.{statement}
 use Rattle.measurement.proofs.judged.Tie as tie

@@ -2,12 +2,11 @@
 use mathlib.Core.Path.{sym, ap, _∙_}
 use mir.Syntax.{w64}
 use mir.Facts.{toZ-ofZ}
-use Rattle.integers.specs.Int.{back-at, kept}
+use Rattle.integers.specs.IntLaws.{back-at, kept}
 use Rattle.integers.specs.RoundLaws.{round-one}
 use Rattle.integers.specs.Fraction.{nearest}
 use Rattle.measurement.specs.Curve.{curve, linearizedOf}
-use Rattle.measurement.specs.Range.{usable}
-use Rattle.measurement.specs.Search.{curve-four}
+use Rattle.measurement.specs.SearchLaws.{usable, curve-four}
 use Rattle.measurement.proofs.linearized.Statement.{statement}
 use Rattle.measurement.proofs.linearized.Tie as tie
 

@@ -3,9 +3,9 @@ use borrow.Author.Needs.{needs}
 use mathlib.Core.Path.{_≡_, _∙_}
 use native.Mathlib.Omega.{arith}
 use mir.Syntax.{w32, w64}
-use Rattle.integers.specs.Int.{bk, back-at}
+use Rattle.integers.specs.IntLaws.{bk, back-at}
 use Rattle.measurement.specs.Measure.{distanceOf, scaledOf, usedPoints, valueOf, measuredOf}
-use Rattle.measurement.specs.Range.{distance-within, scaled-within}
+use Rattle.measurement.specs.MeasureLaws.{distance-within, scaled-within}
 use Rattle.measurement.proofs.measure.Statement.{statement}
 use Rattle.measurement.proofs.measure.Tie as tie
 

@@ -8,8 +8,9 @@ use lib.Signed.{_<ℤ_}
 use mir.Syntax.{w32, w64}
 use mir.Facts.{toZ-ofZ}
 use Rattle.integers.specs.Limit.{Z}
-use Rattle.integers.specs.Int.{bk, ints, excl, kept, Within, within, add-within, sub-within, mul-within, fits-within, mul-fits, back-at}
-use Rattle.measurement.specs.Search.{line-value}
+use Rattle.integers.specs.IntLaws.{bk, ints, excl, kept, within, add-within, sub-within, mul-within, fits-within, mul-fits, back-at}
+use Rattle.integers.specs.Int.{Within}
+use Rattle.measurement.specs.SearchLaws.{line-value}
 use Rattle.measurement.proofs.on_line.Statement.{statement}
 use Rattle.measurement.proofs.on_line.Tie as tie
 

@@ -4,8 +4,8 @@ use native.Mathlib.Omega.{arith}
 use lib.IntN.{pos, _-ℤ_}
 use mir.Syntax.{w64}
 use mir.Facts.{toZ-ofZ}
-use Rattle.integers.specs.Int.{bk, ints, fit, fit-at, back-at}
-use Rattle.measurement.specs.Search.{four-within, one-negative, one-positive}
+use Rattle.integers.specs.IntLaws.{bk, ints, fit, fit-at, back-at}
+use Rattle.measurement.specs.SearchLaws.{four-within, one-negative, one-positive}
 use Rattle.measurement.proofs.one_quadrant.Statement.{statement}
 use Rattle.measurement.proofs.one_quadrant.Tie as tie
 

@@ -7,9 +7,10 @@ use lib.IntN.{pos}
 use mir.Syntax.{w64}
 use mir.Val.{toZ}
 use mir.Facts.{toZ-ofZ, toZ-pos}
-use Rattle.integers.specs.Int.{bk, ints, fit, fit-at, back-at, kept, Within, mul-within, mul-fits}
+use Rattle.integers.specs.IntLaws.{bk, ints, fit, fit-at, back-at, kept, mul-within, mul-fits}
+use Rattle.integers.specs.Int.{Within}
 use Rattle.integers.specs.RoundLaws.{round-within}
-use Rattle.measurement.specs.Measure.{scaledOf}
+use Rattle.measurement.specs.MeasureLaws.{scaled-is}
 use Rattle.measurement.proofs.scaled.Statement.{statement}
 use Rattle.measurement.proofs.scaled.Tie as tie
 
@@ -46,12 +47,12 @@ add-result c =
     omega (arith, ints, fit-at w64 (q .result) (q .ok), q .ensures, w .above, w .below, fit (cast-result c))
 
 returns : tie.Need-returns
-unfolding scaledOf
 returns c =
     let s = c .before in
     let q = c .round-div in
     let e = rw (toZ-ofZ (mul-round-div s), toZ-ofZ (s .fits .d), factor-is s, toZ-pos w64 {n = s .args .divider} (omega arith)) at (q .ensures) in
-    rw (toZ-ofZ (add-result c), back-at w64 (q .result) (q .ok), toZ-ofZ (cast-result c), toZ-ofZ (s .fits .additive), e)
+    rw (toZ-ofZ (add-result c), back-at w64 (q .result) (q .ok), toZ-ofZ (cast-result c), toZ-ofZ (s .fits .additive))
+    (scaled-is (s .args .d) (s .args .factor) (s .args .divider) (s .args .additive) (q .result) e)
 
 pub scaled-spec : {M : Type 1} → statement M
 scaled-spec =

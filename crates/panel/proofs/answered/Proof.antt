@@ -2,7 +2,7 @@
 use borrow.Author.Needs.{needs}
 use mathlib.Core.Path.{_≡_}
 use mir.Syntax.{w32}
-use Rattle.integers.specs.Int.{bk}
+use Rattle.integers.specs.IntLaws.{bk}
 use Rattle.panel.specs.Step.{answerOf}
 use Rattle.panel.proofs.answered.Statement.{statement}
 use Rattle.panel.proofs.answered.Tie as tie

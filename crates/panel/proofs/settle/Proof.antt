@@ -1,7 +1,7 @@
 -- `panel::settle` meets its contract: the switches of the result, and the shown value.
 use borrow.Author.Needs.{needs}
 use mir.Syntax.{w32}
-use Rattle.integers.specs.Int.{back-at}
+use Rattle.integers.specs.IntLaws.{back-at}
 use Rattle.panel.specs.Step.{switchedOf, displayedOf}
 use Rattle.panel.proofs.settle.Statement.{statement}
 use Rattle.panel.proofs.settle.Tie as tie

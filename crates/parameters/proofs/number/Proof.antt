@@ -2,7 +2,7 @@
 use lib.ListN.{getD}
 use lib.IntN.{pos}
 use mir.Syntax.{w32}
-use Rattle.integers.specs.Int.{back-at}
+use Rattle.integers.specs.IntLaws.{back-at}
 use borrow.Author.Needs.{needs}
 use Rattle.parameters.proofs.number.Statement.{statement}
 use Rattle.parameters.proofs.number.Tie as tie

@@ -1,6 +1,6 @@
 -- A word below 0 has no positive part; any other is its positive part.
 use mathlib.Core.Path.{_∙_}
-use Rattle.integers.specs.Int.{ints, fit, excl, abs-is, bk}
+use Rattle.integers.specs.IntLaws.{ints, fit, excl, abs-is, bk}
 use mir.Syntax.{w32}
 use native.Mathlib.Omega.{arith}
 use Rattle.parameters.proofs.unsigned.Statement.{statement}

@@ -2,7 +2,7 @@
 use borrow.Author.Needs.{needs}
 use mathlib.Core.Path.{_≡_}
 use mir.Syntax.{w32}
-use Rattle.integers.specs.Int.{bk, back-at}
+use Rattle.integers.specs.IntLaws.{bk, back-at}
 use Rattle.reading.specs.Reading.{readingOf}
 use Rattle.reading.proofs.read.Statement.{statement}
 use Rattle.reading.proofs.read.Tie as tie

@@ -7,7 +7,7 @@ use lib.IntN.{pos}
 use mir.Syntax.{w32}
 use mir.Facts.{toZ-ofZ}
 use lib.ListN.{List·getD-eq-default}
-use Rattle.integers.specs.Int.{bk}
+use Rattle.integers.specs.IntLaws.{bk}
 use Rattle.registers.specs.Serve.{wordIn}
 use Rattle.registers.proofs.word_in.Statement.{statement}
 use Rattle.registers.proofs.word_in.Tie as tie

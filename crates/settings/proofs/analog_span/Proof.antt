@@ -1,7 +1,7 @@
 -- `settings::analog_span` meets its contract: each field is the number or the word of its slot.
 use borrow.Author.Needs.{needs}
 use mir.Syntax.{w32}
-use Rattle.integers.specs.Int.{back-at}
+use Rattle.integers.specs.IntLaws.{back-at}
 use Rattle.settings.specs.Settings.{spanOf}
 use Rattle.settings.proofs.analog_span.Statement.{statement}
 use Rattle.settings.proofs.analog_span.Tie as tie

@@ -1,7 +1,7 @@
 -- `settings::preselection` meets its contract: each field is the number or the word of its slot, k strides on.
 use borrow.Author.Needs.{needs}
 use mir.Syntax.{w32}
-use Rattle.integers.specs.Int.{back-at}
+use Rattle.integers.specs.IntLaws.{back-at}
 use Rattle.settings.specs.Settings.{preselectionOf}
 use Rattle.settings.proofs.preselection.Statement.{statement}
 use Rattle.settings.proofs.preselection.Tie as tie

@@ -6,7 +6,7 @@ use native.Mathlib.Omega.{arith}
 use borrow.Author.Tests.{leb-true}
 use lib.Dec.{leb}
 use lib.IntN.{ℤ}
-use Rattle.integers.specs.Choice.{by-test, is-true}
+use Rattle.integers.specs.ChoiceLaws.{by-test, is-true}
 use Rattle.integers.specs.TestLaws.{and-both}
 use Rattle.panel.specs.declared.Loaded.{Loaded}
 use Rattle.panel.specs.Load.{loadedOf}

@@ -3,7 +3,7 @@ use borrow.Author.Needs.{needs}
 use borrow.Author.Tests.{eq-eqb, ne-eqb}
 use mathlib.Core.Path.{_≡_, sym, _∙_}
 use mir.Syntax.{w32}
-use Rattle.integers.specs.Int.{bk, back-at}
+use Rattle.integers.specs.IntLaws.{bk, back-at}
 use Rattle.state.specs.Extremes.{widenedOf}
 use Rattle.state.proofs.widened.Statement.{statement}
 use Rattle.state.proofs.widened.Tie as tie

@@ -3,7 +3,7 @@ use mathlib.Core.Path.{_≡_}
 use borrow.Author.Needs.{needs}
 use mir.Syntax.{w32}
 use mir.Facts.{toZ-ofZ}
-use Rattle.integers.specs.Int.{bk}
+use Rattle.integers.specs.IntLaws.{bk}
 use Rattle.switching.specs.Switching.{heldOf}
 use Rattle.switching.proofs.held.Statement.{statement}
 use Rattle.switching.proofs.held.Tie as tie

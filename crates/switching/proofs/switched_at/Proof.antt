@@ -4,7 +4,7 @@ use native.Mathlib.Omega.{arith}
 use borrow.Author.Needs.{needs}
 use mir.Syntax.{w32}
 use mir.Facts.{toZ-ofZ}
-use Rattle.integers.specs.Int.{bk}
+use Rattle.integers.specs.IntLaws.{bk}
 use Rattle.switching.specs.Switching.{switchedAt, preselectionAt}
 use Rattle.switching.specs.SwitchingLaws.{partner-below}
 use Rattle.switching.proofs.switched_at.Statement.{statement}

@@ -5,7 +5,7 @@ use lib.IntN.{pos, natAbs, _+ℤ_}
 use mir.Syntax.{w32, w64}
 use mir.Val.{toZ, ofZ}
 use mir.Facts.{toZ-ofZ}
-use Rattle.integers.specs.Int.{ints, fit}
+use Rattle.integers.specs.IntLaws.{ints, fit}
 use Rattle.integers.specs.TwosComplement.{bitsOf}
 use Rattle.integers.specs.TwosComplementLaws.{bits-from-zero, bits-below-zero, bits-lt}
 use Rattle.integers.proofs.twos_complement.bits.Statement.{statement}

@@ -6,7 +6,8 @@ use borrow.Author.Tests.{lt-ltb, le-ltb}
 use mir.Syntax.{w32, w64}
 use mir.Val.{SFits, toZ, ofZ}
 use mir.Facts.{toZ-pos, toZ-ofZ}
-use Rattle.integers.specs.Int.{Within, sub-is, excl, fits-of, fits-within}
+use Rattle.integers.specs.Int.{Within}
+use Rattle.integers.specs.IntLaws.{sub-is, excl, fits-of, fits-within}
 use Rattle.integers.specs.TwosComplement.{signedOf}
 use borrow.Author.Needs.{needs}
 use Rattle.integers.proofs.twos_complement.signed.Statement.{statement}

@@ -1,7 +1,7 @@
 -- The tests are the definition's own, on the number and the words read.
 use borrow.Author.Tests.{lt-ltb, le-ltb}
 use mir.Syntax.{w32}
-use Rattle.integers.specs.Int.{back-at}
+use Rattle.integers.specs.IntLaws.{back-at}
 use Rattle.parameters.specs.Load.{notAbove}
 use borrow.Author.Needs.{needs}
 use Rattle.parameters.proofs.checks.not_above.Statement.{statement}

@@ -3,7 +3,7 @@ use mathlib.Core.Path.{sym, ap}
 use Rattle.parameters.specs.LoadLaws.{same-yes, same-no}
 use mir.Syntax.{w32}
 use mir.Val.{ofZ}
-use Rattle.integers.specs.Int.{same-bits}
+use Rattle.integers.specs.IntLaws.{same-bits}
 use Rattle.parameters.proofs.checks.same.Statement.{statement}
 use Rattle.parameters.proofs.checks.same.Tie as tie
 

@@ -1,6 +1,6 @@
 -- The two words read are the start and the end.
 use mir.Syntax.{w32}
-use Rattle.integers.specs.Int.{back-at}
+use Rattle.integers.specs.IntLaws.{back-at}
 use Rattle.parameters.specs.Load.{spanEmpty}
 use borrow.Author.Needs.{needs}
 use Rattle.parameters.proofs.checks.span_empty.Statement.{statement}

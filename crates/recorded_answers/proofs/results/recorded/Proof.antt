@@ -1,7 +1,7 @@
 -- `recorded_answers::results::recorded` meets its contract.
 use borrow.Author.Needs.{needs}
 use mir.Syntax.{w32}
-use Rattle.integers.specs.Int.{back-at}
+use Rattle.integers.specs.IntLaws.{back-at}
 use Rattle.recorded_answers.specs.Answers.{extremesAs}
 use Rattle.recorded_answers.proofs.results.recorded.Statement.{statement}
 use Rattle.recorded_answers.proofs.results.recorded.Tie as tie

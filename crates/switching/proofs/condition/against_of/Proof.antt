@@ -3,7 +3,7 @@ use native.Mathlib.Omega.{arith}
 use borrow.Author.Needs.{needs}
 use mir.Syntax.{w64}
 use mir.Facts.{toZ-ofZ}
-use Rattle.integers.specs.Int.{ints, fit, back-at}
+use Rattle.integers.specs.IntLaws.{ints, fit, back-at}
 use Rattle.switching.specs.Condition.{against}
 use Rattle.switching.specs.ConditionLaws.{magnitudeOf-mode, signed-mode, partner-mode}
 use Rattle.switching.proofs.condition.against_of.Statement.{statement}

@@ -3,7 +3,7 @@ use native.Mathlib.Omega.{arith}
 use borrow.Author.Needs.{needs}
 use mir.Syntax.{w64}
 use mir.Facts.{toZ-ofZ}
-use Rattle.integers.specs.Int.{ints, back-at}
+use Rattle.integers.specs.IntLaws.{ints, back-at}
 use Rattle.switching.specs.Condition.{compared}
 use Rattle.switching.specs.ConditionLaws.{magnitudeOf-mode, signed-modes}
 use Rattle.switching.proofs.condition.compared_of.Statement.{statement}

@@ -3,7 +3,8 @@ use mathlib.Core.Path.{_≡_}
 use borrow.Author.Needs.{needs}
 use mir.Syntax.{w64}
 use mir.Facts.{toZ-ofZ}
-use Rattle.integers.specs.Int.{Within, size, back-at, bk}
+use Rattle.integers.specs.Int.{Within}
+use Rattle.integers.specs.IntLaws.{size, back-at, bk}
 use Rattle.switching.specs.Condition.{compared, against, conditionOf}
 use Rattle.switching.specs.ConditionLaws.{within-twice, compared-within, against-within, rule-above, rule-below, rule-near}
 use Rattle.switching.proofs.condition.condition.Statement.{statement}

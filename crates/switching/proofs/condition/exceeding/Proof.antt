@@ -2,7 +2,7 @@
 use mir.Syntax.{w64}
 use mir.Facts.{toZ-ofZ}
 use borrow.Author.Needs.{needs}
-use Rattle.integers.specs.Int.{back-at}
+use Rattle.integers.specs.IntLaws.{back-at}
 use Rattle.switching.specs.Condition.{exceeds}
 use Rattle.switching.proofs.condition.exceeding.Statement.{statement}
 use Rattle.switching.proofs.condition.exceeding.Tie as tie

@@ -1,7 +1,7 @@
 -- `switching::condition::magnitude` meets its contract: 0 − x of a negative x, x itself otherwise (`magnitudeOf-turn`, `magnitudeOf-keep`).
 use native.Mathlib.Omega.{arith}
 use mir.Facts.{toZ-ofZ}
-use Rattle.integers.specs.Int.{ints, fit}
+use Rattle.integers.specs.IntLaws.{ints, fit}
 use Rattle.switching.specs.ConditionLaws.{magnitudeOf-turn, magnitudeOf-keep}
 use Rattle.switching.proofs.condition.magnitude.Statement.{statement}
 use Rattle.switching.proofs.condition.magnitude.Tie as tie

@@ -6,7 +6,8 @@ use lib.Dec.{lit<}
 use lib.IntN.{pos, _-ℤ_}
 use mir.Syntax.{w64}
 use mir.Facts.{toZ-ofZ, toZ-pos}
-use Rattle.integers.specs.Int.{Within, sub-within, fits-within, mul-within, back-at, bk}
+use Rattle.integers.specs.Int.{Within}
+use Rattle.integers.specs.IntLaws.{sub-within, fits-within, mul-within, back-at, bk}
 use Rattle.switching.specs.Condition.{magnitudeOf}
 use Rattle.switching.specs.ConditionLaws.{magnitudeOf-within, near-is}
 use Rattle.switching.proofs.condition.on_near.Statement.{statement}

@@ -2,7 +2,7 @@
 use native.Mathlib.Omega.{arith}
 use mir.Syntax.{w64}
 use mir.Facts.{toZ-ofZ}
-use Rattle.integers.specs.Int.{ints, fit, back-at}
+use Rattle.integers.specs.IntLaws.{ints, fit, back-at}
 use Rattle.switching.proofs.condition.without_sign.Statement.{statement}
 use Rattle.switching.proofs.condition.without_sign.Tie as tie
 

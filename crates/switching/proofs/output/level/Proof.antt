@@ -2,7 +2,7 @@
 use borrow.Author.Needs.{needs}
 use Rattle.integers.specs.Choice.{some}
 use Rattle.switching.specs.Outputs.{activeAt, lowAt, levelOf}
-use Rattle.switching.specs.Marks.{marks-joined, marked-level}
+use Rattle.switching.specs.MarkSteps.{marks-joined, marked-level}
 use Rattle.switching.proofs.output.level.Statement.{statement}
 use Rattle.switching.proofs.output.level.Tie as tie
 

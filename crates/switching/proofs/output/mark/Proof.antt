@@ -3,7 +3,7 @@ use borrow.Author.Needs.{needs}
 use native.Mathlib.Omega.{arith}
 use lib.Dec.{eqb}
 use Rattle.switching.specs.Switching.{activeOf}
-use Rattle.switching.specs.Marks.{bit-at-most-1, mark-is}
+use Rattle.switching.specs.MarkSteps.{bit-at-most-1, mark-is}
 use Rattle.switching.proofs.output.mark.Statement.{statement}
 use Rattle.switching.proofs.output.mark.Tie as tie
 

@@ -8,8 +8,9 @@ use native.Mathlib.Nat.{mul-le-mul-right}
 use lib.Dec.{T}
 use lib.IntN.{ℤ, pos, negsuc, negℤ, natAbs, _+ℤ_, _-ℤ_, _*ℤ_}
 use lib.Signed.{leZ, ltZ, nonNeg, _≤ℤ_, _<ℤ_}
-use Rattle.integers.specs.Choice.{is-false}
-use Rattle.integers.specs.Int.{P, N, leZ-false, ltZ-true, ltZ-false, add-is, sub-is, mul-is, neg-P, neg-N, abs-is, excl, eq-of, eq-to, le-of, le-to, lt-of, lt-to}
+use Rattle.integers.specs.ChoiceLaws.{is-false}
+use Rattle.integers.specs.Int.{P, N}
+use Rattle.integers.specs.IntLaws.{leZ-false, ltZ-true, ltZ-false, add-is, sub-is, mul-is, neg-P, neg-N, abs-is, excl, eq-of, eq-to, le-of, le-to, lt-of, lt-to}
 
 infixl 6 _⊕_ _⊖_
 infixl 7 _⊗_

@@ -9,9 +9,9 @@ use native.Mathlib.Omega.{arith}
 use lib.IntN.{ℤ, pos, negℤ, natAbs, _*ℤ_}
 use lib.Signed.{ltZ}
 use Rattle.integers.specs.Limit.{Z}
-use Rattle.integers.specs.Choice.{by-test}
-use Rattle.integers.specs.Int.{ints}
-use Rattle.integers.specs.Ring.{var, lit, _⊕_, _⊖_, _⊗_, ring, abs-ex}
+use Rattle.integers.specs.ChoiceLaws.{by-test}
+use Rattle.integers.specs.IntLaws.{ints}
+use Rattle.integers.specs.RingLaws.{var, lit, _⊕_, _⊖_, _⊗_, ring, abs-ex}
 use Rattle.integers.specs.Round.{roundDiv}
 use Rattle.integers.specs.RoundLaws.{off, round-near, round-one}
 use Rattle.measurement.specs.declared.Error.{Error}

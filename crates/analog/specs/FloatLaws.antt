@@ -10,9 +10,9 @@ use lib.Signed.{ltZ}
 use lib.Ieee.{Float, nan, inf, fin, up, down, lt}
 use lib.Ieee.Fits.{down-pos}
 use lib.Ieee.Positive.{first-pos}
-use Rattle.integers.specs.Choice.{is-true}
+use Rattle.integers.specs.ChoiceLaws.{is-true}
 use Rattle.integers.specs.Int.{P, N}
-use Rattle.integers.specs.Ring.{Exp, var, lit, _⊕_, _⊗_, ring, ring-to, lt-ex, lt-by}
+use Rattle.integers.specs.RingLaws.{Exp, var, lit, _⊕_, _⊗_, ring, ring-to, lt-ex, lt-by}
 use Rattle.integers.specs.Fraction.{Frac, frac, Same}
 use Rattle.analog.specs.FloatValue.{Is, valueOf}
 

@@ -1,40 +1,30 @@
--- The ranges that a table that loads gives to scaling and points, and that every number of the steps stays within what 64 bits hold.
--- Paper 01, "The parameter table". Assumes nothing.
-use mathlib.Core.Path.{_≡_, refl}
+-- The laws of steps 2 and 3: A is added after rounding, and every number stays within what 64 bits hold.
+-- Paper 01, "From telegram to result". Assumes nothing.
+use mathlib.Core.Path.{_≡_}
 use mathlib.Core.Bool.{not}
-use mathlib.Core.List.{List}
 use Prim.Native.Nat.{ℕ, zero, suc, _≤_, _<_}
 use native.Mathlib.Omega.{arith}
 use lib.Dec.{T, eqb, lit≤}
-use lib.IntN.{ℤ, pos, _-ℤ_}
+use lib.IntN.{ℤ, pos, _+ℤ_, _-ℤ_, _*ℤ_}
 use Rattle.integers.specs.Limit.{Z}
-use Rattle.integers.specs.Choice.{by-test}
-use Rattle.integers.specs.Int.{ints, Within, within, wider, add-within, sub-within, mul-within}
-use Rattle.integers.specs.Round.{floorMod}
+use Rattle.integers.specs.ChoiceLaws.{by-test}
+use Rattle.integers.specs.Int.{Within}
+use Rattle.integers.specs.IntLaws.{ints, within, wider, add-within, sub-within, mul-within}
+use Rattle.integers.specs.RingLaws.{var, lit, _⊕_, ring}
+use Rattle.integers.specs.Round.{roundDiv, floorMod}
 use Rattle.integers.specs.RoundLaws.{round-within}
 use Rattle.integers.specs.FloorLaws.{floor-range}
-use Rattle.measurement.specs.declared.Scaling.{Scaling}
 use Rattle.measurement.specs.Measure.{distanceOf, scaledOf}
-use Rattle.measurement.specs.Search.{Usable}
 
--- with the mode on the points are usable
-unfoldable pub Linearizable : ℕ → List ℤ → ℕ → Type 0
-Linearizable zero ws n = Unit {0}
-Linearizable (suc m) ws n = Usable ws n
+-- A is added after rounding
+pub additive-last : (d : ℤ) (f g : ℕ) (A : ℤ) → scaledOf d f g A ≡ scaledOf d f g (pos 0) +ℤ A
+unfolding scaledOf
+additive-last d f g A = let q = roundDiv (d *ℤ pos f) (pos g) in ring (var q ⊕ var A) (var q ⊕ lit 0 ⊕ var A) (omega arith)
 
-pub usable : (m : ℕ) {ws : List ℤ} {n : ℕ} → (m ≡ 0 → ⊥) → Linearizable m ws n → Usable ws n
-unfolding Linearizable
-usable zero a l = absurd (a refl)
-usable (suc m) a l = l
-
--- the scaling of a table that loads, and its points
-pub record Sound (s : Scaling) (ws : List ℤ) : Type 0 where
-  pub offset : Within Z (s .offset)
-  pub round-loop : s .«round_loop» ≤ Z
-  pub factor : s .factor ≤ 9999999
-  pub divider : 0 < s .divider
-  pub additive : Within Z (s .additive)
-  pub curve : Linearizable (s .linearization) ws (s .used)
+-- the sum as the code makes it, from the quotient q
+pub scaled-is : (d : ℤ) (f g : ℕ) (A q : ℤ) → q ≡ roundDiv (d *ℤ pos f) (pos g) → q +ℤ A ≡ scaledOf d f g A
+unfolding scaledOf
+scaled-is d f g A q e = rw e
 
 not-zero : (n : ℕ) → T (not (eqb n 0)) → 0 < n
 not-zero zero t = absurd t

@@ -13,31 +13,23 @@ use lib.IntN.{ℤ, pos, negsuc, natAbs, _+ℤ_, _-ℤ_, _*ℤ_}
 use lib.ListN.{length, getD}
 use lib.Signed.{leZ, ltZ, _≤ℤ_, _<ℤ_}
 use Rattle.integers.specs.Limit.{Z}
-use Rattle.integers.specs.Choice.{by-test, either, is-true, is-false}
-use Rattle.integers.specs.Int.{ints, excl, Within, within, wider, add-within, sub-within, mul-within}
-use Rattle.integers.specs.Ring.{var, lit, _⊕_, _⊖_, _⊗_, neg, ring, abs-ex, le-ex, lt-ex, le-by, nle→lt, le→nlt}
+use Rattle.integers.specs.ChoiceLaws.{by-test, either, is-true, is-false}
+use Rattle.integers.specs.IntLaws.{ints, excl, within, wider, add-within, sub-within, mul-within}
+use Rattle.integers.specs.Int.{Within}
+use Rattle.integers.specs.RingLaws.{var, lit, _⊕_, _⊖_, _⊗_, neg, ring, abs-ex, le-ex, lt-ex, le-by, nle→lt, le→nlt}
 use Rattle.integers.specs.Round.{roundDiv}
 use Rattle.integers.specs.RoundLaws.{round-one, round-neg, round-within}
 use Rattle.measurement.specs.declared.Found.{Found}
 use Rattle.measurement.specs.declared.Found.the-variants.{At, Nothing}
 use Rattle.integers.specs.Fraction.{Frac, whole, nearest}
+use Rattle.measurement.specs.Sound.{Usable, OnLine, Linearizable}
 use Rattle.measurement.specs.Curve.{Point, pointAt, pointsFrom, highestOf, before, line, lineValue, rightOf, fourQuadrants, oneQuadrant, curve, rising}
 
--- what a table that loads says of its n used points: they are there, within ±Z, and their x rises strictly
-pub record Usable (ws : List ℤ) (n : ℕ) : Type 0 where
-  pub long : 2 * n ≤ length ws
-  pub some : 0 < n
-  pub within : (k : ℕ) → k < 2 * n → Within Z (getD ws k (pos 0))
-  pub rises : (j : ℕ) → suc j < n → T (ltZ (pointAt ws j .x) (pointAt ws (suc j) .x))
-
--- two points within ±Z, and v from the first on and before the second
-pub record OnLine (x y x₁ y₁ v : ℤ) : Type 0 where
-  pub x-within : Within Z x
-  pub y-within : Within Z y
-  pub x₁-within : Within Z x₁
-  pub y₁-within : Within Z y₁
-  pub from : x ≤ℤ v
-  pub to : v <ℤ x₁
+-- with the mode on the points are usable
+pub usable : (m : ℕ) {ws : List ℤ} {n : ℕ} → (m ≡ 0 → ⊥) → Linearizable m ws n → Usable ws n
+unfolding Linearizable
+usable zero a l = absurd (a refl)
+usable (suc m) a l = l
 
 -- what code divides: y (x₁ − x) + (v − x)(y₁ − y), by x₁ − x
 pub line-value : (x y x₁ y₁ v : ℤ) → x <ℤ x₁ → roundDiv (y *ℤ (x₁ -ℤ x) +ℤ (v -ℤ x) *ℤ (y₁ -ℤ y)) (x₁ -ℤ x) ≡ lineValue x y x₁ y₁ v
