@@ -59,7 +59,7 @@ pub struct Scaling {
 }
 
 // A control point found.
-pub enum Found {
+enum Found {
     // The point's place, counted from 0.
     At(usize),
     // There is none.
@@ -80,7 +80,7 @@ pub fn directed(reverse: u32, width: u32, p: u32) -> u32
 }
 
 // Step 2: the position less the offset, and with a round loop that modulo its length.
-pub fn distance(p: u32, offset: i32, round_loop: u32) -> i64
+fn distance(p: u32, offset: i32, round_loop: u32) -> i64
     ensures { λ r. ⌜ r ≡ distanceOf p offset «round_loop» ⌝ }
 {
     let d = p as i64 - offset as i64;
@@ -91,7 +91,7 @@ pub fn distance(p: u32, offset: i32, round_loop: u32) -> i64
 }
 
 // Step 3: the distance times factor by divider, rounded, plus the additive value.
-pub fn scaled(d: i64, factor: u32, divider: u32, additive: i32) -> i64
+fn scaled(d: i64, factor: u32, divider: u32, additive: i32) -> i64
     requires { ⌜ Within 4394967294 d × (factor ≤ 9999999) ⌝ }
     ensures { λ r. ⌜ r ≡ scaledOf d factor divider additive ⌝ }
 {
@@ -100,7 +100,7 @@ pub fn scaled(d: i64, factor: u32, divider: u32, additive: i32) -> i64
 }
 
 // Step 5: the error bit first, then the range.
-pub fn judged(reported: bool, v: i64) -> Measured
+fn judged(reported: bool, v: i64) -> Measured
     ensures { λ r. ⌜ r ≡ judgedOf reported v ⌝ }
 {
     if reported {
@@ -129,7 +129,7 @@ pub fn judged(reported: bool, v: i64) -> Measured
 }
 
 // The highest of the first n control points whose x is at most v, or none: from the last down.
-pub fn highest(points: &[i32], n: usize, v: i64) -> Found
+fn highest(points: &[i32], n: usize, v: i64) -> Found
     requires { ⌜ 2 * n ≤ length (now points) ⌝ }
     ensures { λ r. ⌜ r ≡ highestOf (now (points .entry)) n v ⌝ }
 {
@@ -145,7 +145,7 @@ pub fn highest(points: &[i32], n: usize, v: i64) -> Found
 }
 
 // The straight line from (x, y) to (x1, y1) at v: the whole fraction, rounded once.
-pub fn on_line(x: i32, y: i32, x1: i32, y1: i32, v: i64) -> i64
+fn on_line(x: i32, y: i32, x1: i32, y1: i32, v: i64) -> i64
     requires { ⌜ OnLine x y x1 y1 v ⌝ }
     ensures { λ r. ⌜ r ≡ lineValue x y x1 y1 v ⌝ }
 {
@@ -169,7 +169,7 @@ fn from_point(points: &[i32], n: usize, i: usize, v: i64) -> i64
 }
 
 // Four quadrants: the curve at v, rounded once; before the first point its y.
-pub fn four_quadrants(points: &[i32], n: usize, v: i64) -> i64
+fn four_quadrants(points: &[i32], n: usize, v: i64) -> i64
     requires { ⌜ Usable (now points) n ⌝ }
     ensures { λ r. ⌜ r ≡ nearest (fourQuadrants (pointsFrom (now (points .entry)) 0 n) (whole v)) ⌝ }
 {
@@ -180,7 +180,7 @@ pub fn four_quadrants(points: &[i32], n: usize, v: i64) -> i64
 }
 
 // One quadrant: a negative v gives minus the value for -v.
-pub fn one_quadrant(points: &[i32], n: usize, v: i64) -> i64
+fn one_quadrant(points: &[i32], n: usize, v: i64) -> i64
     requires { ⌜ Usable (now points) n × Within 50000000000000000 v ⌝ }
     ensures { λ r. ⌜ r ≡ nearest (oneQuadrant (pointsFrom (now (points .entry)) 0 n) (whole v)) ⌝ }
 {
@@ -191,7 +191,7 @@ pub fn one_quadrant(points: &[i32], n: usize, v: i64) -> i64
 }
 
 // Step 4: by the mode, 0 off, 1 one quadrant, 2 four.
-pub fn linearized(mode: u32, points: &[i32], n: usize, v: i64) -> i64
+fn linearized(mode: u32, points: &[i32], n: usize, v: i64) -> i64
     requires { ⌜ Linearizable mode (now points) n × Within 50000000000000000 v ⌝ }
     ensures { λ r. ⌜ r ≡ linearizedOf mode (pointsFrom (now (points .entry)) 0 n) v ⌝ }
 {

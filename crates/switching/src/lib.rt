@@ -1,6 +1,6 @@
 // Switching: the conditions, pulses and locks of the four preselections, and the levels of the outputs.
 // May use integers only; knows plain settings, no slots and no events.
-pub mod condition;
+mod condition;
 pub mod output;
 
 ghost use mathlib.Core.Path.{_≡_};
@@ -98,7 +98,7 @@ fn pulse_after(full: u32, was: bool, on: bool, left: u32) -> u32
 }
 
 // The signal of a preselection.
-pub fn signal(p: Preselection, s: Switch) -> bool
+fn signal(p: Preselection, s: Switch) -> bool
     ensures { λ b. ⌜ b ≡ signalOf p s ⌝ }
 {
     if p.pulse == 0 {
@@ -108,7 +108,7 @@ pub fn signal(p: Preselection, s: Switch) -> bool
 }
 
 // Whether a preselection is active: its signal, or the lock that holds it.
-pub fn active(p: Preselection, s: Switch) -> bool
+fn active(p: Preselection, s: Switch) -> bool
     ensures { λ b. ⌜ b ≡ activeOf p s ⌝ }
 {
     if s.locked {
@@ -144,7 +144,7 @@ fn locked(p: Preselection, s: Switch) -> Switch
 }
 
 // One switch after a telegram or levels event, with its partner's preselection and the result.
-pub fn switched(p: Preselection, partner: i32, r: i32, s: Switch) -> Switch
+fn switched(p: Preselection, partner: i32, r: i32, s: Switch) -> Switch
     ensures { λ q. ⌜ q ≡ switchedOf p partner r s ⌝ }
 {
     let released = released_by(p, r, s.released);
@@ -162,7 +162,7 @@ fn pulse_left(left: u32, ms: u16) -> u32
 }
 
 // One switch after a tick.
-pub fn ticked(ms: u16, s: Switch) -> Switch
+fn ticked(ms: u16, s: Switch) -> Switch
     ensures { λ q. ⌜ q ≡ tickedOf ms s ⌝ }
 {
     let left = pulse_left(s.pulse, ms);
@@ -172,7 +172,7 @@ pub fn ticked(ms: u16, s: Switch) -> Switch
 }
 
 // One switch with its lock cleared.
-pub fn unlocked(s: Switch) -> Switch
+fn unlocked(s: Switch) -> Switch
     ensures { λ q. ⌜ q ≡ unlockedOf s ⌝ }
 {
     let mut n = s;
