@@ -5,6 +5,9 @@ pub mod twos_complement; // twos_complement.rt: signed words of 32 bits and thei
 ghost use mathlib.Core.Path.{_≡_};
 ghost use Rattle.integers.specs.Round.{roundDiv, floorMod};
 
+// Z, the largest number that the panel shows and stores.
+pub const Z: i64 = 99_999_999;
+
 // n / d to the nearest whole number, halves away from zero; 0 where d is not above 0.
 pub fn round_div(n: i64, d: i64) -> i64
     ensures { λ r. ⌜ r ≡ roundDiv n d ⌝ }

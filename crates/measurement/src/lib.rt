@@ -2,11 +2,12 @@
 // Uses `integers` for the rounding division and the remainder; knows plain numbers and the points' words, no slots.
 ghost use mathlib.Core.Path.{_≡_};
 ghost use Prim.Native.Nat.{_+_, _*_, _^_, _≤_, _<_};
+ghost use lib.IntN.{pos};
 ghost use lib.ListN.{length};
 ghost use Rattle.integers.specs.Int.{Within};
 ghost use Rattle.integers.specs.Fraction.{whole, nearest};
 ghost use Rattle.measurement.specs.Curve.{highestOf, lineValue, pointsFrom, fourQuadrants, oneQuadrant, linearizedOf};
-ghost use Rattle.measurement.specs.Measure.{errorNumber, directedOf, distanceOf, scaledOf, judgedOf, measuredOf};
+ghost use Rattle.measurement.specs.Measure.{errorNumber, measured, directedOf, distanceOf, scaledOf, judgedOf, measuredOf};
 ghost use Rattle.measurement.specs.Sound.{OnLine, Usable, Linearizable, Sound};
 
 // What is wrong with a reading.
@@ -99,31 +100,29 @@ fn scaled(d: i64, factor: u32, divider: u32, additive: i32) -> i64
     q + additive as i64
 }
 
+// What is measured under an error: the result is 0.
+fn faulty(error: Error) -> Measured
+    ensures { λ r. ⌜ r ≡ measured (pos 0) error ⌝ }
+{
+    Measured { result: 0, error }
+}
+
 // Step 5: the error bit first, then the range.
 fn judged(reported: bool, v: i64) -> Measured
     ensures { λ r. ⌜ r ≡ judgedOf reported v ⌝ }
 {
     if reported {
-        return Measured {
-            result: 0,
-            error: Error::ErrorBit,
-        };
+        return faulty(Error::ErrorBit);
     }
-    if 99999999 < v {
-        return Measured {
-            result: 0,
-            error: Error::AboveRange,
-        };
+    if integers::Z < v {
+        return faulty(Error::AboveRange);
     }
-    if v < -99999999 {
-        return Measured {
-            result: 0,
-            error: Error::BelowRange,
-        };
+    if v < -integers::Z {
+        return faulty(Error::BelowRange);
     }
     let result = v as i32;
     Measured {
-        result: result,
+        result,
         error: Error::None,
     }
 }

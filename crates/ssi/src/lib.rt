@@ -6,7 +6,7 @@ ghost use Prim.Native.Nat.{_-_, _^_, _≤_, _<_};
 ghost use lib.Dec.{eqb};
 ghost use Rattle.ssi.specs.Sound.{Sound, errorBit};
 ghost use Rattle.ssi.specs.Telegram.{accepted, levelOf, errorReported, withoutBit, grayDecoded, decoded, widthOf, modulus, positionOf, contentOf, diagnosisOf};
-ghost use Rattle.ssi.specs.Builder.{coded, levelAsked, telegramOf, builtOf};
+ghost use Rattle.ssi.specs.Builder.{coded, levelAsked, telegramOf, refused, builtOf};
 
 // How a telegram is laid out, as the table has it.
 pub struct Layout {
@@ -129,10 +129,7 @@ pub fn error_reported(l: Layout, t: u32) -> bool
     requires { ⌜ Sound l ⌝ }
     ensures { λ r. ⌜ r ≡ errorReported l t ⌝ }
 {
-    if l.error_bit == 0 {
-        return false;
-    }
-    level(t, l.error_bit) == l.error_level
+    l.error_bit != 0 && level(t, l.error_bit) == l.error_level
 }
 
 // The position p; bits above N do not count.
@@ -220,10 +217,17 @@ fn telegram(l: Layout, position: u32, error: bool) -> u32
 fn lacks_error_bit(l: Layout, error: bool) -> bool
     ensures { λ r. ⌜ r ≡ error && eqb (errorBit l) 0 ⌝ }
 {
-    if error {
-        return l.error_bit == 0;
+    error && l.error_bit == 0
+}
+
+// A position that is not built.
+fn refuse(number: u8) -> Built
+    ensures { λ r. ⌜ r ≡ refused number ⌝ }
+{
+    Built {
+        refusal: number,
+        telegram: 0,
     }
-    false
 }
 
 // The telegram of a position, with the error bit at its error level exactly when the error is asked for.
@@ -232,16 +236,10 @@ pub fn build(l: Layout, position: u32, error: bool) -> Built
     ensures { λ r. ⌜ r ≡ builtOf l position error ⌝ }
 {
     if mask(width(l)) < position {
-        return Built {
-            refusal: 17,
-            telegram: 0,
-        };
+        return refuse(17);
     }
     if lacks_error_bit(l, error) {
-        return Built {
-            refusal: 18,
-            telegram: 0,
-        };
+        return refuse(18);
     }
     Built {
         refusal: 0,

@@ -45,10 +45,7 @@ fn against_of(mode: u32, own: i32, partner: i32) -> i64
 fn latched(on: bool, off: bool, was: bool) -> bool
     ensures { λ b. ⌜ b ≡ latchedOf on off was ⌝ }
 {
-    if on {
-        return true;
-    }
-    if off { false } else { was }
+    on || (!off && was)
 }
 
 // Mode 3: on at r ≥ p, off at r < p − h, else kept.

@@ -55,46 +55,28 @@ pub fn fresh() -> Switch
 fn has_suppression(p: Preselection) -> bool
     ensures { λ b. ⌜ b ≡ suppresses p ⌝ }
 {
-    if p.startup != 1 {
-        return false;
-    }
-    if p.mode == 1 {
-        return true;
-    }
-    p.mode == 4
+    p.startup == 1 && (p.mode == 1 || p.mode == 4)
 }
 
 // Whether suppression has ended, after an event with the result r.
 fn released_by(p: Preselection, r: i32, released: bool) -> bool
     ensures { λ b. ⌜ b ≡ releasedOf p r released ⌝ }
 {
-    if released {
-        return true;
-    }
-    if has_suppression(p) {
-        return condition::exceeding(p.mode, r, p.value);
-    }
-    true
+    released || (!has_suppression(p) || condition::exceeding(p.mode, r, p.value))
 }
 
 // The condition after an event, held off while suppressed.
 fn held(p: Preselection, partner: i32, r: i32, released: bool, was: bool) -> bool
     ensures { λ on. ⌜ on ≡ heldOf p partner r released was ⌝ }
 {
-    if released {
-        return condition::condition(p.mode, r, p.value, partner, p.hysteresis, was);
-    }
-    false
+    released && condition::condition(p.mode, r, p.value, partner, p.hysteresis, was)
 }
 
 // What is left of the pulse after the condition went from was to on.
 fn pulse_after(full: u32, was: bool, on: bool, left: u32) -> u32
     ensures { λ ms. ⌜ ms ≡ pulseOf full was on left ⌝ }
 {
-    if was {
-        return left;
-    }
-    if on { full } else { left }
+    if !was && on { full } else { left }
 }
 
 // The signal of a preselection.
@@ -111,10 +93,7 @@ fn signal(p: Preselection, s: Switch) -> bool
 fn active(p: Preselection, s: Switch) -> bool
     ensures { λ b. ⌜ b ≡ activeOf p s ⌝ }
 {
-    if s.locked {
-        return true;
-    }
-    signal(p, s)
+    s.locked || signal(p, s)
 }
 
 // The switch with its condition and its pulse after an event.
@@ -122,11 +101,10 @@ fn conditioned(p: Preselection, partner: i32, r: i32, released: bool, s: Switch)
     ensures { λ q. ⌜ q ≡ conditionedOf p partner r released s ⌝ }
 {
     let on = held(p, partner, r, released, s.on);
-    let left = pulse_after(p.pulse, s.on, on, s.pulse);
     Switch {
-        pulse: left,
-        on: on,
-        released: released,
+        pulse: pulse_after(p.pulse, s.on, on, s.pulse),
+        on,
+        released,
         locked: s.locked,
     }
 }
@@ -135,12 +113,10 @@ fn conditioned(p: Preselection, partner: i32, r: i32, released: bool, s: Switch)
 fn locked(p: Preselection, s: Switch) -> Switch
     ensures { λ q. ⌜ q ≡ lockedOf p s ⌝ }
 {
-    let mut n = s;
-    if p.lock == 1 {
-        n.locked = active(p, s);
-        return n;
+    Switch {
+        locked: if p.lock == 1 { active(p, s) } else { s.locked },
+        ..s
     }
-    n
 }
 
 // One switch after a telegram or levels event, with its partner's preselection and the result.
@@ -165,19 +141,17 @@ fn pulse_left(left: u32, ms: u16) -> u32
 fn ticked(ms: u16, s: Switch) -> Switch
     ensures { λ q. ⌜ q ≡ tickedOf ms s ⌝ }
 {
-    let left = pulse_left(s.pulse, ms);
-    let mut n = s;
-    n.pulse = left;
-    n
+    Switch {
+        pulse: pulse_left(s.pulse, ms),
+        ..s
+    }
 }
 
 // One switch with its lock cleared.
 fn unlocked(s: Switch) -> Switch
     ensures { λ q. ⌜ q ≡ unlockedOf s ⌝ }
 {
-    let mut n = s;
-    n.locked = false;
-    n
+    Switch { locked: false, ..s }
 }
 
 // The partner of a preselection, counted from 0.

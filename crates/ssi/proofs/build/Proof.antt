@@ -26,16 +26,22 @@ too-big c = omega (arith, mask-modulus (c .before), c .if1 .taken)
 small : (c : tie.Else1) → c .before .before .before .args .position < modulus (c .before .before .before .args .l)
 small c = omega (arith, mask-modulus (c .before), c .if1 .left)
 
+refuse-requires : tie.Need-refuse-requires
+refuse-requires c κs = search needs
+
 returns : tie.Need-returns
 unfolding builtOf
-returns c = rw (le-leb _ _ (too-big c))
+returns c = rw (c .refuse .ensures, le-leb _ _ (too-big (c .before)))
 
 lacks-error-bit-requires : tie.Need-lacks-error-bit-requires
 lacks-error-bit-requires c κs = search needs
 
+refuse-requires-2 : tie.Need-refuse-requires-2
+refuse-requires-2 c κs = search needs
+
 returns-2 : tie.Need-returns-2
 unfolding builtOf
-returns-2 c = rw (lt-leb _ _ (small (c .before .before)), sym (c .before .lacks-error-bit .ensures) ∙ c .if2 .taken)
+returns-2 c = rw (c .refuse2 .ensures, lt-leb _ _ (small (c .before .before .before)), sym (c .before .before .lacks-error-bit .ensures) ∙ c .before .if2 .taken)
 
 telegram-requires : tie.Need-telegram-requires
 telegram-requires c κs = (c .before .before .before .before .before .pre, small (c .before .before))
@@ -50,8 +56,10 @@ build-spec =
     (tie.spec
     width-requires
     mask-requires
+    refuse-requires
     returns
     lacks-error-bit-requires
+    refuse-requires-2
     returns-2
     telegram-requires
     returns-3)

@@ -6,16 +6,16 @@ use borrow.Author.Needs.{needs}
 use Rattle.ssi.proofs.error_reported.Statement.{statement}
 use Rattle.ssi.proofs.error_reported.Tie as tie
 
-returns : tie.Need-returns
-unfolding errorReported
-returns c = rw (c .if1 .taken)
-
 level-requires : tie.Need-level-requires
 level-requires c κs = search needs
 
+returns : tie.Need-returns
+unfolding errorReported
+returns c = rw (c .before .level .ensures) (set-up (errorBit (c .before .before .before .before .args .l)) _ (c .before .before .if1 .taken))
+
 returns-2 : tie.Need-returns-2
 unfolding errorReported
-returns-2 c = rw (c .before .level .ensures) (set-up (errorBit (c .before .before .before .before .args .l)) _ (c .before .before .if1 .left))
+returns-2 c = rw (c .if1 .left)
 
 pub error-reported-spec : {M : Type 1} → statement M
-error-reported-spec = tie.close (tie.spec returns level-requires returns-2)
+error-reported-spec = tie.close (tie.spec level-requires returns returns-2)
