@@ -1,9 +1,7 @@
 -- Which layouts a loaded table can have: those that pass checks 2, 3 and 4 of paper 01, "Where each check sits".
 -- Every public function of this crate asks for a sound layout.
-use mathlib.Core.Bool.{Bool, _&&_, _||_}
 use mathlib.Core.Logic.{_⊎_}
 use Prim.Native.Nat.{ℕ, _≤_, _<_}
-use lib.Dec.{leb, ltb}
 use Rattle.ssi.specs.declared.Layout.{Layout}
 
 -- the error bit, 0 for none, and the level of it that means error
@@ -24,10 +22,3 @@ pub record Sound (l : Layout) : Type 0 where
   -- 4: the error bit is at most N, and stands outside B to H; 0, none, is below B
   pub bit-resolution : errorBit l ≤ l .resolution
   pub outside : (errorBit l < l .low) ⊎ (l .high < errorBit l)
-
--- the same as a test that computes
-abbrev pub soundTest : Layout → Bool
-soundTest l =
-    leb 1 (l .low) && leb (l .resolution) 32 && leb (errorLevel l) 1
-    && leb (l .low) (l .high) && leb (l .high) (l .resolution)
-    && leb (errorBit l) (l .resolution) && (ltb (errorBit l) (l .low) || ltb (l .high) (errorBit l))
