@@ -78,10 +78,7 @@ fn digits_only(s: &[u8]) -> bool
     let mut i: usize = 0;
     while i < s.len() {
         let b = s[i];
-        if b < b'0' {
-            return false;
-        }
-        if b'9' < b {
+        if b < b'0' || b'9' < b {
             return false;
         }
         i += 1;
@@ -94,10 +91,7 @@ fn natural(s: &[u8]) -> bool
     ensures { λ r. ⌜ r ≡ isNatural (now (s .entry)) ⌝ }
 {
     let count = s.len();
-    if count == 0 {
-        return false;
-    }
-    if 18 < count {
+    if count == 0 || 18 < count {
         return false;
     }
     let first = s[0];

@@ -106,17 +106,12 @@ fn out_of_order(waiting: bool, w: u32) -> bool
 fn accept(upper: u16, w: u32) -> AfterWord
     ensures { λ r. ⌜ r ≡ acceptedOf upper w ⌝ }
 {
-    let kind = parts::kind(w);
-    if kind == 0 {
-        return give(Event::Tick(parts::ms(w)));
+    match parts::kind(w) {
+        0 => give(Event::Tick(parts::ms(w))),
+        1 => give(Event::Levels(parts::levels(w))),
+        2 => keep(parts::half(w)),
+        _ => give(Event::Telegram(parts::telegram(upper, parts::half(w)))),
     }
-    if kind == 1 {
-        return give(Event::Levels(parts::levels(w)));
-    }
-    if kind == 2 {
-        return keep(parts::half(w));
-    }
-    give(Event::Telegram(parts::telegram(upper, parts::half(w))))
 }
 
 // One word of the log.

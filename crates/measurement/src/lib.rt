@@ -194,13 +194,11 @@ fn linearized(mode: u32, points: &[i32], n: usize, v: i64) -> i64
     requires { ⌜ Linearizable mode (now points) n × Within 50000000000000000 v ⌝ }
     ensures { λ r. ⌜ r ≡ linearizedOf mode (pointsFrom (now (points .entry)) 0 n) v ⌝ }
 {
-    if mode == 0 {
-        return v;
+    match mode {
+        0 => v,
+        1 => one_quadrant(points, n, v),
+        _ => four_quadrants(points, n, v),
     }
-    if mode == 1 {
-        return one_quadrant(points, n, v);
-    }
-    four_quadrants(points, n, v)
 }
 
 // Steps 2 to 5: the result and the error of a position after direction.
