@@ -13,7 +13,7 @@ ghost use Prim.Native.Nat.{_≤_};
 ghost use Rattle.state.specs.Valid.{Good};
 ghost use Rattle.modbus.specs.Replies.{longestReply};
 
-mod inputs; // inputs.rt: what a line of TABLE or EVENTS and a frame do
+mod files; // files.rt: what a line of TABLE or EVENTS and a frame do
 mod stream; // stream.rt: the lines of a file or a terminal
 
 // A table as far as TABLE was read.
@@ -55,7 +55,7 @@ fn read_table(fd: i32, path: &[u8]) -> Table {
             break;
         }
         let line = s.line;
-        let l = inputs::table_line(words, script::collector::asked(line));
+        let l = files::table_line(words, script::collector::asked(line));
         words = l.table;
         if !l.fits {
             stream::refuse(s, b"TABLE");
@@ -78,7 +78,7 @@ fn take_event(state: State, events: Stream) -> State
     ensures { λ r. ⌜ Good r ⌝ }
 {
     let line = events.line;
-    let x = inputs::event_line(state, script::collector::asked(line));
+    let x = files::event_line(state, script::collector::asked(line));
     if !x.fits {
         stream::refuse(events, b"EVENTS");
     }
@@ -127,7 +127,7 @@ fn answered(x: Slave) -> Slave
     let panel = fed.state;
     let events = fed.events;
     let line = x.line;
-    let r = inputs::frame(x.node, panel, line);
+    let r = files::frame(x.node, panel, line);
     let state = r.state;
     let reply = r.reply;
     Slave {

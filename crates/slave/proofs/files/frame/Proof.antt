@@ -1,13 +1,13 @@
--- `slave::inputs::frame` meets its contract: what is answered are the bytes held, as `registers` answers them.
+-- `slave::files::frame` meets its contract: what is answered are the bytes held, as `registers` answers them.
 use mathlib.Core.Path.{_≡_, sym, ap}
 use native.Mathlib.Omega.{arith}
 use lib.ListN.{length}
 use lib.Seq.{length-take-le}
 use Rattle.framing.specs.CollectorLaws.{held-is}
-use Rattle.slave.specs.Inputs.{repliedBy}
+use Rattle.slave.specs.Files.{repliedBy}
 use borrow.Author.Needs.{needs}
-use Rattle.slave.proofs.inputs.frame.Statement.{statement}
-use Rattle.slave.proofs.inputs.frame.Tie as tie
+use Rattle.slave.proofs.files.frame.Statement.{statement}
+use Rattle.slave.proofs.files.frame.Tie as tie
 
 -- the bytes held are as many as the collector has room for
 room : (s : tie.Start) → length (s .args .line .bytes) ≡ 257

@@ -1,4 +1,4 @@
--- `slave::inputs::table_line` meets its contract: a blank line, a slot, and every other command.
+-- `slave::files::table_line` meets its contract: a blank line, a slot, and every other command.
 use mathlib.Core.Path.{_≡_, refl}
 use mathlib.Core.List.{List, [], _∷_}
 use Prim.Native.Nat.{ℕ}
@@ -10,10 +10,10 @@ use denote.Enum.Declared.{tagOf}
 use Rattle.script.proofs.Command.{the-type}
 use Rattle.script.specs.declared.Command.{Command}
 use Rattle.script.specs.declared.Command.the-variants.{Blank, Wrong, Node, Slot, Start, Telegram, Levels, Tick, Frame}
-use Rattle.slave.specs.Inputs.{unlisted, listedOf}
+use Rattle.slave.specs.Files.{unlisted, listedOf}
 use borrow.Author.Needs.{needs}
-use Rattle.slave.proofs.inputs.table_line.Statement.{statement}
-use Rattle.slave.proofs.inputs.table_line.Tie as tie
+use Rattle.slave.proofs.files.table_line.Statement.{statement}
+use Rattle.slave.proofs.files.table_line.Tie as tie
 
 -- the places of the commands that are no line of TABLE
 abbrev keys : List ℕ

@@ -9,7 +9,7 @@ ghost use mathlib.Core.Path.{_≡_};
 ghost use Rattle.state.specs.Valid.{Good};
 ghost use Prim.Native.Nat.{_≤_};
 ghost use Rattle.modbus.specs.Replies.{longestReply};
-ghost use Rattle.slave.specs.Inputs.{listedOf, movedOf, keptOf, steppedOf, repliedOf};
+ghost use Rattle.slave.specs.Files.{listedOf, movedOf, keptOf, steppedOf, repliedOf};
 
 // A table after a line.
 pub struct Listed {

@@ -1,4 +1,4 @@
--- `slave::inputs::event_line` meets its contract: a blank line, the three events, and every other command.
+-- `slave::files::event_line` meets its contract: a blank line, the three events, and every other command.
 use mathlib.Core.Path.{_≡_, refl, sym, subst, _∙_}
 use mathlib.Core.Bool.{false}
 use mathlib.Core.List.{List, [], _∷_}
@@ -11,10 +11,10 @@ use Rattle.script.proofs.Command.{the-type}
 use Rattle.script.specs.declared.Command.{Command}
 use Rattle.script.specs.declared.Command.the-variants.{Blank, Wrong, Node, Slot, Start, Telegram, Levels, Tick, Frame}
 use Rattle.slave.specs.declared.inputs.Stepped.{Stepped}
-use Rattle.slave.specs.Inputs.{keptOf, steppedOf}
+use Rattle.slave.specs.Files.{keptOf, steppedOf}
 use borrow.Author.Needs.{needs}
-use Rattle.slave.proofs.inputs.event_line.Statement.{statement}
-use Rattle.slave.proofs.inputs.event_line.Tie as tie
+use Rattle.slave.proofs.files.event_line.Statement.{statement}
+use Rattle.slave.proofs.files.event_line.Tie as tie
 
 -- the places of the commands that are no line of EVENTS
 abbrev keys : List ℕ
