@@ -15,9 +15,9 @@ use Rattle.parameters.specs.Slots.{withWord}
 use Rattle.registers.specs.Serve.{Served, servedOf}
 use Rattle.script.specs.declared.Command.{Command}
 use Rattle.script.specs.declared.Command.the-variants.{Blank, Wrong, Node, Slot, Start, Telegram, Levels, Tick, Frame}
-use Rattle.slave.specs.declared.inputs.Listed.{Listed}
-use Rattle.slave.specs.declared.inputs.Replied.{Replied}
-use Rattle.slave.specs.declared.inputs.Stepped.{Stepped}
+use Rattle.slave.specs.declared.files.Listed.{Listed}
+use Rattle.slave.specs.declared.files.Replied.{Replied}
+use Rattle.slave.specs.declared.files.Stepped.{Stepped}
 
 -- ---- "TABLE a text file of console's `slot` lines"
 

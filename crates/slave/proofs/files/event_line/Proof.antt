@@ -10,7 +10,7 @@ use Rattle.state.specs.Valid.{Good}
 use Rattle.script.proofs.Command.{the-type}
 use Rattle.script.specs.declared.Command.{Command}
 use Rattle.script.specs.declared.Command.the-variants.{Blank, Wrong, Node, Slot, Start, Telegram, Levels, Tick, Frame}
-use Rattle.slave.specs.declared.inputs.Stepped.{Stepped}
+use Rattle.slave.specs.declared.files.Stepped.{Stepped}
 use Rattle.slave.specs.Files.{keptOf, steppedOf}
 use borrow.Author.Needs.{needs}
 use Rattle.slave.proofs.files.event_line.Statement.{statement}
