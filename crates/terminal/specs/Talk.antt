@@ -17,11 +17,11 @@ abbrev pub answeredOf : Console → Collector → Console
 answeredOf c l = afterLine c (lineOf l)
 
 -- one byte: a line that it ends is answered
-abbrev pub heardOf : Console → Collector → Talk
-heardOf c l = cond (l .ended) (talk (answeredOf c l) l) (talk c l)
+abbrev pub talkedAt : Console → Collector → Talk
+talkedAt c l = cond (l .ended) (talk (answeredOf c l) l) (talk c l)
 
 unfoldable pub talked : Talk → ℕ → Talk
-talked t b = heardOf (t .console) (pushed (t .collector) b)
+talked t b = talkedAt (t .console) (pushed (t .collector) b)
 
 -- bytes in order
 unfoldable pub talkedAll : Talk → List ℕ → Talk

@@ -20,7 +20,7 @@ struct Talk {
 }
 
 // What a piece of the input leaves.
-struct Turn {
+struct Heard {
     // The dialog after it.
     talk: Talk,
     // Whether the input goes on.
@@ -90,39 +90,39 @@ fn finish(t: Talk)
 }
 
 // Reads what is there and answers the lines that end in it.
-fn take_turn(t: Talk) -> Turn
+fn hear(t: Talk) -> Heard
     requires { ⌜ Ready (t .console) ⌝ }
     ensures { λ r. ⌜ Ready (r .talk .console) ⌝ }
 {
     let mut buffer = [0u8; 4096];
     let got = libc::read(STDIN_FILENO, &mut buffer);
     if got <= 0 {
-        return Turn {
+        return Heard {
             talk: t,
             more: false,
         };
     }
     let n = io::count(got, &buffer);
-    Turn {
+    Heard {
         talk: take_all(t, &buffer[..n]),
         more: true,
     }
 }
 
-// Runs a dialog to the end of the input. The turns are counted down from a number that no input uses up.
+// Runs a dialog to the end of the input. The pieces of the input are counted down from a number that no input uses up.
 pub fn run() {
     let mut t = Talk {
         console: dialog::fresh(),
         collector: collector::fresh(),
     };
-    let mut turns = u64::MAX;
-    while turns > 0 {
-        let u = take_turn(t);
+    let mut pieces = u64::MAX;
+    while pieces > 0 {
+        let u = hear(t);
         t = u.talk;
         if !u.more {
             finish(t);
             return;
         }
-        turns -= 1;
+        pieces -= 1;
     }
 }

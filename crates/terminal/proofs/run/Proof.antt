@@ -1,4 +1,4 @@
--- `terminal::run` is safe and ends. The invariant: the dialog is valid. The measure is the number of turns left.
+-- `terminal::run` is safe and ends. The invariant: the dialog is valid. The measure is the number of pieces left.
 use native.Mathlib.Omega.{arith}
 use borrow.Author.Needs.{needs}
 use Rattle.dialog.specs.Dialog.{Ready}
@@ -6,10 +6,10 @@ use Rattle.terminal.proofs.run.Statement.{statement}
 use Rattle.terminal.proofs.run.Tie as tie
 
 abbrev Inv-loop : tie.InvT-loop
-Inv-loop t₀ turns₀ t turns = Ready (t .console)
+Inv-loop t₀ pieces₀ t pieces = Ready (t .console)
 
 abbrev μ-loop : tie.MeasureT-loop
-μ-loop t₀ turns₀ t turns = turns
+μ-loop t₀ pieces₀ t pieces = pieces
 
 fresh-requires : tie.Need-fresh-requires Inv-loop μ-loop
 fresh-requires c κs = search needs
@@ -20,8 +20,8 @@ fresh-requires-2 c κs = search needs
 loop-holds : tie.Need-loop-holds Inv-loop μ-loop
 loop-holds c = search needs
 
-take-turn-requires : tie.Need-take-turn-requires Inv-loop μ-loop
-take-turn-requires c κs = search needs
+hear-requires : tie.Need-hear-requires Inv-loop μ-loop
+hear-requires c κs = search needs
 
 finish-requires : tie.Need-finish-requires Inv-loop μ-loop
 finish-requires c κs = search needs
@@ -29,8 +29,8 @@ finish-requires c κs = search needs
 returns : tie.Need-returns Inv-loop μ-loop
 returns c = search needs
 
-sub-turns : tie.Need-sub-turns Inv-loop μ-loop
-sub-turns c = omega arith
+sub-pieces : tie.Need-sub-pieces Inv-loop μ-loop
+sub-pieces c = omega arith
 
 loop-less : tie.Need-loop-less Inv-loop μ-loop
 loop-less c = omega arith
@@ -50,10 +50,10 @@ run-spec =
     fresh-requires
     fresh-requires-2
     loop-holds
-    take-turn-requires
+    hear-requires
     finish-requires
     returns
-    sub-turns
+    sub-pieces
     loop-less
     loop-again
     returns-2)
