@@ -1,6 +1,6 @@
 // The byte side of a Modbus RTU slave: what a frame asks, and the bytes of every reply. It knows frames and registers, and nothing of the panel.
 // Uses `integers` for signed words.
-pub mod checksum; // checksum.rt: the CRC
+mod checksum; // checksum.rt: the CRC
 pub mod replies; // replies.rt: the bytes of a reply
 pub mod words; // words.rt: numbers of 16 bits and their bytes
 
@@ -58,10 +58,7 @@ fn misfit(f: &[u8]) -> bool
         return f.len() != 8;
     }
     if function == WRITE {
-        if f.len() < 9 {
-            return true;
-        }
-        return f.len() != 9 + words::wide(f[6]);
+        return f.len() < 9 || f.len() != 9 + words::wide(f[6]);
     }
     false
 }
@@ -81,29 +78,14 @@ pub fn crc_right(f: &[u8]) -> bool
 pub fn broken(f: &[u8]) -> bool
     ensures { λ r. ⌜ r ≡ isBroken (now (f .entry)) ⌝ }
 {
-    if f.len() < 4 {
-        return true;
-    }
-    if f.len() > MOST_BYTES {
-        return true;
-    }
-    if misfit(f) {
-        return true;
-    }
-    !crc_right(f)
+    f.len() < 4 || (f.len() > MOST_BYTES || (misfit(f) || !crc_right(f)))
 }
 
 // Whether a word that can be read starts at a register.
 fn mapped(register: u16) -> bool
     ensures { λ r. ⌜ r ≡ isMapped register ⌝ }
 {
-    if register == SHOWN_REGISTER {
-        return true;
-    }
-    if register < SLOT_REGISTERS {
-        return register % 2 == 0;
-    }
-    false
+    register == SHOWN_REGISTER || register < SLOT_REGISTERS && register % 2 == 0
 }
 
 // Whether the function is none of the two that a slave knows.
@@ -114,10 +96,7 @@ pub fn unknown(f: &[u8]) -> bool
         return true;
     }
     let function = f[1];
-    if function == READ {
-        return false;
-    }
-    function != WRITE
+    function != READ && function != WRITE
 }
 
 // Whether the quantity is not 2, or the byte count of a write not 4.
@@ -125,13 +104,7 @@ fn wrong_amount(f: &[u8]) -> bool
     requires { ⌜ 8 ≤ length (now f) ⌝ }
     ensures { λ r. ⌜ r ≡ wrongAmount (now (f .entry)) ⌝ }
 {
-    if words::number_of(f[4], f[5]) != 2 {
-        return true;
-    }
-    if f[1] == WRITE {
-        return f[6] != 4;
-    }
-    false
+    words::number_of(f[4], f[5]) != 2 || f[1] == WRITE && f[6] != 4
 }
 
 // The start register.
@@ -148,13 +121,7 @@ fn wrong_start(f: &[u8]) -> bool
     ensures { λ r. ⌜ r ≡ wrongStart (now (f .entry)) ⌝ }
 {
     let start = start_of(f);
-    if !mapped(start) {
-        return true;
-    }
-    if f[1] == WRITE {
-        return start == SHOWN_REGISTER;
-    }
-    false
+    !mapped(start) || f[1] == WRITE && start == SHOWN_REGISTER
 }
 
 // The word that a write brings.

@@ -18,14 +18,14 @@ pub fn wide(b: u8) -> usize
 }
 
 // The lower byte of a number of 16 bits.
-pub fn low_byte(n: u16) -> u8
+pub(crate) fn low_byte(n: u16) -> u8
     ensures { λ r. ⌜ r ≡ n % 256 ⌝ }
 {
     (n % 256) as u8
 }
 
 // The upper byte of a number of 16 bits.
-pub fn high_byte(n: u16) -> u8
+pub(crate) fn high_byte(n: u16) -> u8
     ensures { λ r. ⌜ r ≡ n / 256 ⌝ }
 {
     (n / 256) as u8
