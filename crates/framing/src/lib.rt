@@ -32,10 +32,7 @@ pub struct Fed {
 fn whole_request(f: &[u8]) -> bool
     ensures { λ r. ⌜ r ≡ isRequest (now (f .entry)) ⌝ }
 {
-    if modbus::unknown(f) {
-        return false;
-    }
-    !modbus::broken(f)
+    !modbus::unknown(f) && !modbus::broken(f)
 }
 
 // Whether the bytes are as many as a reply has.
@@ -47,31 +44,19 @@ fn reply_long(f: &[u8]) -> bool
     }
     let function = f[1];
     if function == modbus::READ {
-        if f.len() <= 5 {
-            return false;
-        }
-        return f.len() == 5 + words::wide(f[2]);
+        return f.len() > 5 && f.len() == 5 + words::wide(f[2]);
     }
     if function == modbus::WRITE {
         return f.len() == 8;
     }
-    if function < 0x80 {
-        return false;
-    }
-    f.len() == 5
+    function >= 0x80 && f.len() == 5
 }
 
 // Whether the bytes are a whole reply. The length is tested first: it spares the CRC of a reply that grows.
 fn whole_reply(f: &[u8]) -> bool
     ensures { λ r. ⌜ r ≡ isReply (now (f .entry)) ⌝ }
 {
-    if f.len() > modbus::MOST_BYTES {
-        return false;
-    }
-    if reply_long(f) {
-        return modbus::crc_right(f);
-    }
-    false
+    f.len() <= modbus::MOST_BYTES && (reply_long(f) && modbus::crc_right(f))
 }
 
 // Whether a frame is neither to this node nor to all.
@@ -80,10 +65,7 @@ fn foreign(node: u8, f: &[u8]) -> bool
     ensures { λ r. ⌜ r ≡ isForeign node (now (f .entry)) ⌝ }
 {
     let address = f[0];
-    if address == 0 {
-        return false;
-    }
-    address != node
+    address != 0 && address != node
 }
 
 // Nothing held.

@@ -10,11 +10,11 @@ shared-slice-read-address c = search needs
 
 returns : tie.Need-returns
 unfolding isForeign
-returns c = rw (eq-eqb _ _ (c .if1 .taken))
+returns c = rw (ne-eqb _ _ (c .if1 .taken))
 
 returns-2 : tie.Need-returns-2
 unfolding isForeign
-returns-2 c = rw (ne-eqb _ _ (c .if1 .left))
+returns-2 c = rw (eq-eqb _ _ (c .if1 .left))
 
 pub foreign-spec : {M : Type 1} → statement M
 foreign-spec = tie.close (tie.spec shared-slice-read-address returns returns-2)
