@@ -101,8 +101,5 @@ pub fn asked(c: Collector) -> Command
 pub fn pending(c: Collector) -> bool
     ensures { λ r. ⌜ r ≡ pendingOf c ⌝ }
 {
-    if c.ended {
-        return false;
-    }
-    0 < c.length
+    !c.ended && 0 < c.length
 }

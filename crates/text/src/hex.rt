@@ -51,13 +51,7 @@ fn all_hex(s: &[u8]) -> bool
 pub fn is_hex(s: &[u8], least: usize, most: usize) -> bool
     ensures { λ r. ⌜ r ≡ isHex least most (now (s .entry)) ⌝ }
 {
-    if s.len() < least {
-        return false;
-    }
-    if most < s.len() {
-        return false;
-    }
-    all_hex(s)
+    least <= s.len() && (s.len() <= most && all_hex(s))
 }
 
 // A byte as a number of 32 bits.

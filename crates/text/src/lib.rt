@@ -25,7 +25,7 @@ pub fn put_bytes(out: &mut [u8], at: usize, bytes: &[u8]) -> usize
 }
 
 // Puts the text of z and then one byte.
-pub fn put_number(out: &mut [u8], at: usize, z: i64, after: u8) -> usize
+fn put_number(out: &mut [u8], at: usize, z: i64, after: u8) -> usize
     requires { ⌜ (at + 20 ≤ length (now out)) × Within largest z ⌝ }
     ensures { λ r. ⌜ Put (now (out .entry)) at (textOf z ++ (after ∷ [])) r (now (out .exit)) ⌝ }
 {
