@@ -2,5 +2,6 @@
 pub mod Step
 pub mod Load
 pub mod Telegrams
+pub mod Cases
 pub mod ValidLaws
 pub mod StepWay
