@@ -42,12 +42,12 @@ fn with_bytes(sum: u64, bytes: &[u8]) -> u64 {
 }
 
 // The sum after an answer: its bytes, then its number.
-fn with_answer(sum: u64, reply: Reply, number: u8) -> u64
+fn with_answer(sum: u64, reply: Reply, refusal: u8) -> u64
     requires { ⌜ reply .length ≤ 9 ⌝ }
 {
     let bytes = reply.bytes;
     let n = reply.length;
-    mixed(with_bytes(sum, &bytes[..n]), number as u64)
+    mixed(with_bytes(sum, &bytes[..n]), refusal as u64)
 }
 
 // What an answer leaves beside the table.
@@ -69,7 +69,7 @@ fn serve(t: &mut [i32; 104], x: Summed, frame: &[u8]) -> Summed
     let reply = r.reply;
     Summed {
         live,
-        sum: with_answer(x.sum, reply, r.number),
+        sum: with_answer(x.sum, reply, r.refusal),
     }
 }
 

@@ -19,9 +19,9 @@ ghost use Rattle.state.specs.Valid.{Good};
 // The word that stands for an event.
 fn word_of(e: Event) -> u64 {
     match e {
-        Event::Telegram(w) => w as u64,
+        Event::Telegram(w) => 0x2_0000_0000 + w as u64,
         Event::Levels(l) => 0x1_0000_0000 + l as u64,
-        Event::Tick(ms) => 0x2_0000_0000 + ms as u64,
+        Event::Tick(ms) => ms as u64,
     }
 }
 

@@ -9,7 +9,7 @@ use Rattle.events.specs.Log.{Log, acceptedOf, takenOf, endOf, logFrom, l
 use Rattle.events.specs.Bytes.{wordsIn, logOfBytes}
 
 abbrev pub gives : List Event → ℕ → Log
-gives es number = record { events = es; number = number }
+gives es refusal = record { events = es; refusal = refusal }
 
 abbrev pub Cases : Type 0
 Cases =

@@ -24,7 +24,7 @@ abbrev pub kept : ℕ → AfterWord
 kept upper = record { pending = record { waiting = true; upper = upper }; taken = Nothing }
 
 abbrev pub refused : ℕ → AfterWord
-refused number = record { pending = freshPending; taken = Refused number }
+refused refusal = record { pending = freshPending; taken = Refused refusal }
 
 -- "A lower half comes directly after its upper half and nowhere else; anything else after an upper half .. gives 15":
 -- after an upper half each word but a lower half is out of order, elsewhere each lower half
@@ -50,17 +50,17 @@ endOf p left = cond (eqb left 0) (cond (p .waiting) 15 0) 16
 -- what a log gives: its events, and the number that `end` carries
 pub record Log : Type 0 where
   pub events : List Event
-  pub number : ℕ
+  pub refusal : ℕ
 
 -- what a word makes of what the rest of the log gives: "A log refusal ends the run"
 abbrev pub before : Taken → Log → Log
-before (Happened e) rest = record { events = e ∷ rest .events; number = rest .number }
+before (Happened e) rest = record { events = e ∷ rest .events; refusal = rest .refusal }
 before Nothing rest = rest
-before (Refused number) rest = record { events = []; number = number }
+before (Refused refusal) rest = record { events = []; refusal = refusal }
 
 -- the words of a log from some place on, and the number of bytes left over behind them
 unfoldable pub logFrom : Pending → List ℕ → ℕ → Log
-logFrom p [] left = record { events = []; number = endOf p left }
+logFrom p [] left = record { events = []; refusal = endOf p left }
 logFrom p (w ∷ ws) left = before (takenOf p w .taken) (logFrom (takenOf p w .pending) ws left)
 
 -- THE MEANING of a log: its whole words, and the number of bytes left over

@@ -14,11 +14,11 @@ use Rattle.events.specs.Log.{freshPending, takenOf, endOf, Log, before, 
 
 -- a log that ends here
 abbrev pub ends : ℕ → Log
-ends number = record { events = []; number = number }
+ends refusal = record { events = []; refusal = refusal }
 
 -- a log behind events that came before
 abbrev pub behind : List Event → Log → Log
-behind es log = record { events = es ++ log .events; number = log .number }
+behind es log = record { events = es ++ log .events; refusal = log .refusal }
 
 -- ---- at the front of a list
 pub log-word : (p : Pending) (w : ℕ) (ws : List ℕ) (left : ℕ) → logFrom p (w ∷ ws) left ≡ before (takenOf p w .taken) (logFrom (takenOf p w .pending) ws left)

@@ -58,13 +58,13 @@ read-one (Telegram t) ws left h =
     (lower-word (kept u .pending) (wordWith 3 d) refl (kind-with 3 d (omega arith) ds) (reserved-with 3 d ds)
     ∙ ap (λ (x : ℕ). happened (Telegram (joined u x))) (content-with 3 d ds) ∙ ap (λ (x : ℕ). happened (Telegram x)) (halves t))
 
-read-from : (es : List Event) → AllCarried es → logFrom freshPending (written es) 0 ≡ record { events = es; number = 0 }
+read-from : (es : List Event) → AllCarried es → logFrom freshPending (written es) 0 ≡ record { events = es; refusal = 0 }
 unfolding written logFrom endOf
 read-from [] h = refl
 read-from (e ∷ es) h = read-one e (written es) 0 (h .0) ∙ ap (behind (e ∷ [])) (read-from es (h .1))
 
 -- THE WORDS OF EVENTS, read, are these events, and the log ends with 0
-pub read-back : (es : List Event) → AllCarried es → logOf (written es) 0 ≡ record { events = es; number = 0 }
+pub read-back : (es : List Event) → AllCarried es → logOf (written es) 0 ≡ record { events = es; refusal = 0 }
 unfolding logOf
 read-back es h = read-from es h
 
@@ -136,8 +136,8 @@ upper-back u w = omega arith
 lower-back : (u w : ℕ) → joined u (halfOf w) % 2 ^ 16 ≡ halfOf w
 lower-back u w = omega arith
 
-module _ (ws : List ℕ) (left : ℕ) (rest : (q : Pending) → logFrom q ws left .number ≡ 0 → written (logFrom q ws left .events) ≡ wordWaiting q ++ ws) where
-  step-back : (p : Pending) (w : ℕ) (s : AfterWord) → Shape p w s → before (s .taken) (logFrom (s .pending) ws left) .number ≡ 0
+module _ (ws : List ℕ) (left : ℕ) (rest : (q : Pending) → logFrom q ws left .refusal ≡ 0 → written (logFrom q ws left .events) ≡ wordWaiting q ++ ws) where
+  step-back : (p : Pending) (w : ℕ) (s : AfterWord) → Shape p w s → before (s .taken) (logFrom (s .pending) ws left) .refusal ≡ 0
       → written (before (s .taken) (logFrom (s .pending) ws left) .events) ≡ wordWaiting p ++ (w ∷ ws)
   unfolding written
   step-back p w s (was-refused n h) z = absurd (omega arith)
@@ -158,12 +158,12 @@ end-back p left h = by (p .waiting) (eqb left 0) h
     by true true h = absurd (omega arith)
     by true false h = absurd (omega arith)
 
-pub written-from : (p : Pending) (ws : List ℕ) (left : ℕ) → AllWords ws → logFrom p ws left .number ≡ 0 → written (logFrom p ws left .events) ≡ wordWaiting p ++ ws
+pub written-from : (p : Pending) (ws : List ℕ) (left : ℕ) → AllWords ws → logFrom p ws left .refusal ≡ 0 → written (logFrom p ws left .events) ≡ wordWaiting p ++ ws
 unfolding written logFrom
 written-from p [] left h z = end-back p left z
 written-from p (w ∷ ws) left h z = step-back ws left (λ q. written-from q ws left (h .1)) p w (takenOf p w) (shape p w (h .0)) z
 
 -- A LOG THAT ENDS WITH 0 is the words of its events, and of nothing else
-pub written-back : (ws : List ℕ) (left : ℕ) → AllWords ws → logOf ws left .number ≡ 0 → written (logOf ws left .events) ≡ ws
+pub written-back : (ws : List ℕ) (left : ℕ) → AllWords ws → logOf ws left .refusal ≡ 0 → written (logOf ws left .events) ≡ ws
 unfolding logOf
 written-back ws left h z = written-from freshPending ws left h z

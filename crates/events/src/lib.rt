@@ -60,12 +60,12 @@ pub fn word_at(b0: u8, b1: u8, b2: u8, b3: u8) -> u32
 }
 
 // A word that is refused.
-fn refuse(number: u8) -> AfterWord
-    ensures { λ r. ⌜ r ≡ refused number ⌝ }
+fn refuse(refusal: u8) -> AfterWord
+    ensures { λ r. ⌜ r ≡ refused refusal ⌝ }
 {
     AfterWord {
         pending: fresh(),
-        taken: Taken::Refused(number),
+        taken: Taken::Refused(refusal),
     }
 }
 

@@ -24,7 +24,7 @@ fn reset_refusal(seen: bool, error: u32, directed: u32) -> u8
     if !seen | (error == 3) {
         return 13;
     }
-    if 99999999 < directed {
+    if (integers::Z as u32) < directed {
         return 12;
     }
     0

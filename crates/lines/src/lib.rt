@@ -137,11 +137,11 @@ pub fn event_line(
 }
 
 // Puts a load's number and slot, and ends the line.
-pub fn put_refusal(out: &mut [u8], at: usize, number: u32, slot: usize) -> usize
+pub fn put_refusal(out: &mut [u8], at: usize, refusal: u32, slot: usize) -> usize
     requires { ⌜ (at + 40 ≤ length (now out)) × (slot ≤ largest) ⌝ }
-    ensures { λ r. ⌜ Put (now (out .entry)) at (refusalFields number slot) r (now (out .exit)) ⌝ }
+    ensures { λ r. ⌜ Put (now (out .entry)) at (refusalFields refusal slot) r (now (out .exit)) ⌝ }
 {
-    let p1 = text::put_natural(out, at, number as u64, b' ');
+    let p1 = text::put_natural(out, at, refusal as u64, b' ');
     text::put_natural(out, p1, slot as u64, b'\n')
 }
 

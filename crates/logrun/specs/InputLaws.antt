@@ -26,7 +26,7 @@ words-length (a ∷ (b ∷ (c ∷ (d ∷ bytes)))) = omega (arith, words-length 
 
 -- what a load answers to any other number of words than 104
 abbrev pub noTable : Loaded
-noTable = record { number = 1; slot = 0; state = freshOf defaultTable }
+noTable = record { refusal = 1; slot = 0; state = freshOf defaultTable }
 
 pub not-104-words : (t : List ℤ) → (length t ≡ 104 → ⊥) → loadedOf t ≡ noTable
 unfolding loadedOf

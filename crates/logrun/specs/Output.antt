@@ -21,15 +21,15 @@ linesOf count s (e ∷ es) = eventLine (nextCount count) e (stepOf s e) ++ lines
 
 -- a loaded table: the header, the lines of the log's events, and the end with the log's number
 unfoldable pub runText : State → Log → List ℕ
-runText s log = headerLine ++ linesOf 0 s (log .events) ++ endLine (log .number)
+runText s log = headerLine ++ linesOf 0 s (log .events) ++ endLine (log .refusal)
 
 -- "A refused table prints only `load`, number, slot"
 abbrev pub outputFor : Loaded → Log → List ℕ
-outputFor l log = cond (eqb (l .number) 0) (runText (l .state) log) (loadLine (l .number) (l .slot))
+outputFor l log = cond (eqb (l .refusal) 0) (runText (l .state) log) (loadLine (l .refusal) (l .slot))
 
 -- what is printed for the table alone: the header, or the line of its refusal
 unfoldable pub openingText : Loaded → List ℕ
-openingText l = cond (eqb (l .number) 0) headerLine (loadLine (l .number) (l .slot))
+openingText l = cond (eqb (l .refusal) 0) headerLine (loadLine (l .refusal) (l .slot))
 
 unfoldable pub outputOf : List ℕ → List ℕ
 outputOf input = outputFor (loadedOf (tableOf input)) (logOfBytes (logBytes input))

@@ -44,7 +44,7 @@ restText p ws left = wordsText p ws ++ endLine (finishedOf (wordsFed p ws) left)
 
 -- .. is the lines of the log's events from there on, and its number
 abbrev pub logText : ℕ → State → Log → List ℕ
-logText count s log = linesOf count s (log .events) ++ endLine (log .number)
+logText count s log = linesOf count s (log .events) ++ endLine (log .refusal)
 
 -- a run that has ended prints its end
 ended-text : (p : Progress) (ws : List ℕ) (left : ℕ) → eqb (p .refusal) 0 ≡ false → restText p ws left ≡ endLine (p .refusal)
@@ -130,14 +130,14 @@ table-first table log h = rw (take-at table log tableBytes h, take-all tableByte
 log-behind : (table log : List ℕ) → length table ≡ tableBytes → logBytes (table ++ log) ≡ log
 log-behind table log h = drop-at table log tableBytes h
 
-opening-loaded : (l : Loaded) → l .number ≡ 0 → openingText l ≡ headerLine
+opening-loaded : (l : Loaded) → l .refusal ≡ 0 → openingText l ≡ headerLine
 unfolding openingText
-opening-loaded l h = rw (eq-eqb (l .number) 0 h)
+opening-loaded l h = rw (eq-eqb (l .refusal) 0 h)
 
 -- ---- THE LAW of panelrun: the table's 416 bytes, and the log in pieces as it is read into a room of whole words. Where the table loads, the header
 -- and what the pieces print are the output; where it is refused, the load line is
 module _ (table : List ℕ) (long : length table ≡ tableBytes) (full : ℕ) (words : full % 4 ≡ 0) (pieces : List (List ℕ)) (read : AsRead full pieces) where
-  pub output-in-pieces : loadedOf (tableOf table) .number ≡ 0
+  pub output-in-pieces : loadedOf (tableOf table) .refusal ≡ 0
       → openingText (loadedOf (tableOf table)) ++ piecesText full (startOf (loadedOf (tableOf table) .state)) pieces ≡ outputOf (table ++ together pieces)
   unfolding outputOf runText
   output-in-pieces loads =
@@ -150,9 +150,9 @@ module _ (table : List ℕ) (long : length table ≡ tableBytes) (full : ℕ) (w
         log-behind table (together pieces) long,
         eq-eqb _ 0 loads,
       )
-      (sym (append-assoc headerLine (linesOf 0 s (logOfBytes (together pieces) .events)) (endLine (logOfBytes (together pieces) .number))))
+      (sym (append-assoc headerLine (linesOf 0 s (logOfBytes (together pieces) .events)) (endLine (logOfBytes (together pieces) .refusal))))
 
-  pub output-refused : (loadedOf (tableOf table) .number ≡ 0 → ⊥) → openingText (loadedOf (tableOf table)) ≡ outputOf (table ++ together pieces)
+  pub output-refused : (loadedOf (tableOf table) .refusal ≡ 0 → ⊥) → openingText (loadedOf (tableOf table)) ≡ outputOf (table ++ together pieces)
   unfolding outputOf openingText
   output-refused n = rw (table-first table (together pieces) long, ne-eqb _ 0 n)
 

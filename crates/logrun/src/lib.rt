@@ -136,7 +136,7 @@ pub fn start(s: State) -> Progress
 pub fn open(bytes: &[u8], out: &mut [u8]) -> Opened
     requires { ⌜ longest ≤ length (now out) ⌝ }
     ensures is { λ r. ⌜ r .progress ≡ startOf (loadedOf (tableOf (now (bytes .entry))) .state) ⌝ }
-    ensures loads { λ r. ⌜ r .loaded ≡ eqb (loadedOf (tableOf (now (bytes .entry))) .number) 0 ⌝ }
+    ensures loads { λ r. ⌜ r .loaded ≡ eqb (loadedOf (tableOf (now (bytes .entry))) .refusal) 0 ⌝ }
     ensures text { λ r. ⌜ Put (now (out .entry)) 0 (openingText (loadedOf (tableOf (now (bytes .entry))))) (r .end) (now (out .exit)) ⌝ }
     ensures ready { λ r. ⌜ Ready (r .progress) ⌝ }
     ensures within { λ r. ⌜ r .end ≤ length (now (out .exit)) ⌝ }
@@ -144,7 +144,7 @@ pub fn open(bytes: &[u8], out: &mut [u8]) -> Opened
     let l = load(bytes);
     let s = l.state;
     let p = start(s);
-    if l.number == 0 {
+    if l.refusal == 0 {
         let end = lines::header_line(out, 0);
         return Opened {
             progress: p,
@@ -152,7 +152,7 @@ pub fn open(bytes: &[u8], out: &mut [u8]) -> Opened
             end: end,
         };
     }
-    let end = lines::load_line(out, 0, l.number, l.slot);
+    let end = lines::load_line(out, 0, l.refusal, l.slot);
     Opened {
         progress: p,
         loaded: false,

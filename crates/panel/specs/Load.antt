@@ -7,4 +7,4 @@ use Rattle.panel.specs.declared.Loaded.{Loaded}
 use Rattle.state.specs.State.{freshOf}
 
 unfoldable pub loadedOf : List ℤ → Loaded
-loadedOf ws = record { number = loadOf ws .number; slot = loadOf ws .slot; state = freshOf (loadOf ws .table) }
+loadedOf ws = record { refusal = loadOf ws .refusal; slot = loadOf ws .slot; state = freshOf (loadOf ws .table) }

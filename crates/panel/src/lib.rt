@@ -141,10 +141,11 @@ fn on_tick(l: Live, ms: u16) -> Begun
 {
     let switches = l.switches;
     let next = state::with_switches(l, switching::tick_all(ms, switches));
+    let settles = false;
     Begun {
         live: next,
         note: 0,
-        settles: false,
+        settles,
     }
 }
 
@@ -208,7 +209,7 @@ pub fn step(s: State, e: Event) -> Answer
 // What loading a table answers.
 pub struct Loaded {
     // 0, or the number of the check that refuses the table.
-    pub number: u32,
+    pub refusal: u32,
     // The slot that check 2 names, else 0.
     pub slot: usize,
     // The fresh state of the table, or of the defaults where it is refused.
@@ -224,7 +225,7 @@ pub fn load(words: &[i32]) -> Loaded
     let table = l.table;
     let s = state::fresh(table);
     Loaded {
-        number: l.number,
+        refusal: l.refusal,
         slot: l.slot,
         state: s,
     }

@@ -88,8 +88,8 @@ unfoldable pub loadSlot : List ℤ → ℕ
 loadSlot t = cond (eqb (loadRefusal t) 2) (lowestOut t) 0
 
 -- what load answers: the table itself, or a refusal with the defaults as filler
-abbrev pub refusal : ℕ → ℕ → Loaded
-refusal n slot = record { number = n; slot = slot; table = defaultTable }
+abbrev pub refusedWith : ℕ → ℕ → Loaded
+refusedWith n slot = record { refusal = n; slot = slot; table = defaultTable }
 
 unfoldable pub loadOf : List ℤ → Loaded
-loadOf t = cond (eqb (loadRefusal t) 0) (record { number = 0; slot = 0; table = t }) (refusal (loadRefusal t) (loadSlot t))
+loadOf t = cond (eqb (loadRefusal t) 0) (record { refusal = 0; slot = 0; table = t }) (refusedWith (loadRefusal t) (loadSlot t))

@@ -15,7 +15,7 @@ use Rattle.parameters.specs.Slots.{wordAt}
 use Rattle.integers.specs.Choice.{some}
 use Rattle.parameters.specs.Search.{firstOf}
 use Rattle.parameters.specs.SearchLaws.{first-least, first-own, first-only, first-none, none-first}
-use Rattle.parameters.specs.Load.{sameZ, wordsMissing, slotOut, fieldWrong, errorBitWrong, spanEmpty, notAbove, pointsNotRising, originMissing, frozenByEdge, freezeOnEdge, differ, differsFrom, polaritiesDiffer, conflicts, conditions, condition, loadRefusal, loadSlot, refusal, loadOf}
+use Rattle.parameters.specs.Load.{sameZ, wordsMissing, slotOut, fieldWrong, errorBitWrong, spanEmpty, notAbove, pointsNotRising, originMissing, frozenByEdge, freezeOnEdge, differ, differsFrom, polaritiesDiffer, conflicts, conditions, condition, loadRefusal, loadSlot, refusedWith, loadOf}
 
 -- the test of two whole numbers tells whether they are equal
 pub same-yes : (a b : ℤ) → a ≡ b → sameZ a b ≡ true
@@ -38,11 +38,11 @@ same-true (negsuc a) (pos b) e = cc
 
 -- what load answers, stage by stage
 module _ (t : List ℤ) where
-  pub load-length : (length t ≡ 104 → ⊥) → loadOf t ≡ refusal 1 0
+  pub load-length : (length t ≡ 104 → ⊥) → loadOf t ≡ refusedWith 1 0
   unfolding loadOf loadSlot loadRefusal conditions wordsMissing firstOf
   load-length h = rw (ne-eqb (length t) 104 h)
 
-  pub load-range : length t ≡ 104 → lowestOut t < 104 → loadOf t ≡ refusal 2 (lowestOut t)
+  pub load-range : length t ≡ 104 → lowestOut t < 104 → loadOf t ≡ refusedWith 2 (lowestOut t)
   unfolding loadOf loadSlot loadRefusal conditions wordsMissing slotOut firstOf
   load-range e h = rw (eq-eqb (length t) 104 e, lt-ltb (lowestOut t) 104 h)
 
@@ -50,12 +50,12 @@ module _ (t : List ℤ) where
   unfolding loadRefusal conditions wordsMissing slotOut firstOf
   passed e h = rw (eq-eqb (length t) 104 e, le-ltb (lowestOut t) 104 h)
 
-  pub load-conflict : length t ≡ 104 → 104 ≤ lowestOut t → (firstOf 3 (conflicts t) ≡ 0 → ⊥) → loadOf t ≡ refusal (firstOf 3 (conflicts t)) 0
+  pub load-conflict : length t ≡ 104 → 104 ≤ lowestOut t → (firstOf 3 (conflicts t) ≡ 0 → ⊥) → loadOf t ≡ refusedWith (firstOf 3 (conflicts t)) 0
   unfolding loadOf loadSlot
   load-conflict e h n =
       rw (passed e h, ne-eqb (firstOf 3 (conflicts t)) 0 n, ne-eqb (firstOf 3 (conflicts t)) 2 (λ q. omega (arith, first-least 3 (conflicts t) n)))
 
-  pub load-fine : length t ≡ 104 → 104 ≤ lowestOut t → firstOf 3 (conflicts t) ≡ 0 → loadOf t ≡ record { number = 0; slot = 0; table = t }
+  pub load-fine : length t ≡ 104 → 104 ≤ lowestOut t → firstOf 3 (conflicts t) ≡ 0 → loadOf t ≡ record { refusal = 0; slot = 0; table = t }
   unfolding loadOf
   load-fine e h z = rw (passed e h, z)
 
@@ -104,11 +104,11 @@ slot-named t e =
     rw e (record { out = at-lowest t (omega arith); lowest = λ k h. below-lowest t k h (omega arith) })
 
 -- the answer has this number and this slot, and the table where it loads
-pub answer-number : (t : List ℤ) → loadOf t .number ≡ loadRefusal t
+pub answer-number : (t : List ℤ) → loadOf t .refusal ≡ loadRefusal t
 unfolding loadOf
 answer-number t = go (eqb (loadRefusal t) 0) refl
   where
-    go : (b : Bool) → eqb (loadRefusal t) 0 ≡ b → cond b (record { number = 0; slot = 0; table = t }) (refusal (loadRefusal t) (loadSlot t)) .number ≡ loadRefusal t
+    go : (b : Bool) → eqb (loadRefusal t) 0 ≡ b → cond b (record { refusal = 0; slot = 0; table = t }) (refusedWith (loadRefusal t) (loadSlot t)) .refusal ≡ loadRefusal t
     go true e = sym (eqb-true (loadRefusal t) 0 e)
     go false e = refl
 
@@ -116,7 +116,7 @@ pub answer-slot : (t : List ℤ) → loadOf t .slot ≡ loadSlot t
 unfolding loadOf loadSlot
 answer-slot t = go (eqb (loadRefusal t) 0) refl
   where
-    go : (b : Bool) → eqb (loadRefusal t) 0 ≡ b → cond b (record { number = 0; slot = 0; table = t }) (refusal (loadRefusal t) (loadSlot t)) .slot ≡ loadSlot t
+    go : (b : Bool) → eqb (loadRefusal t) 0 ≡ b → cond b (record { refusal = 0; slot = 0; table = t }) (refusedWith (loadRefusal t) (loadSlot t)) .slot ≡ loadSlot t
     go true e = rw (eqb-true (loadRefusal t) 0 e)
     go false e = refl
 

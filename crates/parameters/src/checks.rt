@@ -4,37 +4,37 @@ ghost use Prim.Native.Nat.{_<_};
 ghost use Rattle.integers.specs.Choice.{some};
 ghost use Rattle.parameters.specs.Search.{firstOf};
 ghost use Rattle.parameters.specs.Load.{fieldWrong, errorBitWrong, sameZ, spanEmpty, notAbove, pointsNotRising, originMissing, frozenByEdge, freezeOnEdge, differ, differsFrom, polaritiesDiffer, conflicts};
-use crate::number;
+use crate::natural;
 use crate::slots;
 use crate::word;
 
 // 3: B > H or H > N.
-pub fn field_wrong(t: &[i32; 104]) -> bool
+fn field_wrong(t: &[i32; 104]) -> bool
     ensures { λ r. ⌜ r ≡ fieldWrong (now (t .entry)) ⌝ }
 {
-    let high = number(t, slots::HIGH_BIT);
-    if high < number(t, slots::LOW_BIT) {
+    let high = natural(t, slots::HIGH_BIT);
+    if high < natural(t, slots::LOW_BIT) {
         return true;
     }
-    number(t, slots::RESOLUTION) < high
+    natural(t, slots::RESOLUTION) < high
 }
 
 // 4: the error bit is above N, or from B to H.
-pub fn error_bit_wrong(t: &[i32; 104]) -> bool
+fn error_bit_wrong(t: &[i32; 104]) -> bool
     ensures { λ r. ⌜ r ≡ errorBitWrong (now (t .entry)) ⌝ }
 {
-    let bit = number(t, slots::ERROR_BIT);
-    if number(t, slots::RESOLUTION) < bit {
+    let bit = natural(t, slots::ERROR_BIT);
+    if natural(t, slots::RESOLUTION) < bit {
         return true;
     }
-    if number(t, slots::LOW_BIT) <= bit {
-        return bit <= number(t, slots::HIGH_BIT);
+    if natural(t, slots::LOW_BIT) <= bit {
+        return bit <= natural(t, slots::HIGH_BIT);
     }
     false
 }
 
 // Whether two words are equal.
-pub fn same(a: i32, b: i32) -> bool
+fn same(a: i32, b: i32) -> bool
     ensures { λ r. ⌜ r ≡ sameZ a b ⌝ }
 {
     if a == b {
@@ -44,18 +44,18 @@ pub fn same(a: i32, b: i32) -> bool
 }
 
 // 5: start equals end.
-pub fn span_empty(t: &[i32; 104]) -> bool
+fn span_empty(t: &[i32; 104]) -> bool
     ensures { λ r. ⌜ r ≡ spanEmpty (now (t .entry)) ⌝ }
 {
     same(word(t, slots::ANALOG_START), word(t, slots::ANALOG_END))
 }
 
 // Whether the point after point j is used and its x is not above that of point j.
-pub fn not_above(t: &[i32; 104], j: usize) -> bool
+fn not_above(t: &[i32; 104], j: usize) -> bool
     requires { ⌜ j < 23 ⌝ }
     ensures { λ r. ⌜ r ≡ notAbove (now (t .entry)) j ⌝ }
 {
-    let used = number(t, slots::POINTS_IN_USE) as usize;
+    let used = natural(t, slots::POINTS_IN_USE) as usize;
     if j + 1 < used {
         let next = word(t, slots::POINT_X + slots::POINT_STRIDE * (j + 1));
         return next <= word(t, slots::POINT_X + slots::POINT_STRIDE * j);
@@ -64,7 +64,7 @@ pub fn not_above(t: &[i32; 104], j: usize) -> bool
 }
 
 // Whether some used x is not above the one before it.
-pub fn some_not_above(t: &[i32; 104]) -> bool
+fn some_not_above(t: &[i32; 104]) -> bool
     ensures { λ r. ⌜ r ≡ some 23 (notAbove (now (t .entry))) ⌝ }
 {
     let mut j: usize = 0;
@@ -78,20 +78,20 @@ pub fn some_not_above(t: &[i32; 104]) -> bool
 }
 
 // 6: linearization is on, and the used x do not strictly rise.
-pub fn points_not_rising(t: &[i32; 104]) -> bool
+fn points_not_rising(t: &[i32; 104]) -> bool
     ensures { λ r. ⌜ r ≡ pointsNotRising (now (t .entry)) ⌝ }
 {
-    if number(t, slots::LINEARIZATION) == 0 {
+    if natural(t, slots::LINEARIZATION) == 0 {
         return false;
     }
     some_not_above(t)
 }
 
 // 7: one quadrant, and point 1 is not (0, 0).
-pub fn origin_missing(t: &[i32; 104]) -> bool
+fn origin_missing(t: &[i32; 104]) -> bool
     ensures { λ r. ⌜ r ≡ originMissing (now (t .entry)) ⌝ }
 {
-    if number(t, slots::LINEARIZATION) != 1 {
+    if natural(t, slots::LINEARIZATION) != 1 {
         return false;
     }
     if same(word(t, slots::POINT_X), 0) {
@@ -101,14 +101,14 @@ pub fn origin_missing(t: &[i32; 104]) -> bool
 }
 
 // Whether input i + 1 is set to freeze on an edge.
-pub fn frozen_by_edge(t: &[i32; 104], i: usize) -> bool
+fn frozen_by_edge(t: &[i32; 104], i: usize) -> bool
     requires { ⌜ i < 3 ⌝ }
     ensures { λ r. ⌜ r ≡ frozenByEdge (now (t .entry)) i ⌝ }
 {
-    if number(t, slots::ACTION + slots::INPUT_STRIDE * i) != 2 {
+    if natural(t, slots::ACTION + slots::INPUT_STRIDE * i) != 2 {
         return false;
     }
-    let config = number(t, slots::CONFIG + slots::INPUT_STRIDE * i);
+    let config = natural(t, slots::CONFIG + slots::INPUT_STRIDE * i);
     if config == 2 {
         return true;
     }
@@ -116,30 +116,30 @@ pub fn frozen_by_edge(t: &[i32; 104], i: usize) -> bool
 }
 
 // 8: freeze with config 2 or 3.
-pub fn freeze_on_edge(t: &[i32; 104]) -> bool
+fn freeze_on_edge(t: &[i32; 104]) -> bool
     ensures { λ r. ⌜ r ≡ freezeOnEdge (now (t .entry)) ⌝ }
 {
     frozen_by_edge(t, 0) | frozen_by_edge(t, 1) | frozen_by_edge(t, 2)
 }
 
 // Whether preselections j + 1 and k + 1 aim at one output and differ in polarity.
-pub fn differs(t: &[i32; 104], j: usize, k: usize) -> bool
+fn differs(t: &[i32; 104], j: usize, k: usize) -> bool
     requires { ⌜ (j < 4) × (k < 4) ⌝ }
     ensures { λ r. ⌜ r ≡ differ (now (t .entry)) j k ⌝ }
 {
-    let output = number(t, slots::TARGET + slots::PRESELECTION_STRIDE * j);
+    let output = natural(t, slots::TARGET + slots::PRESELECTION_STRIDE * j);
     if output == 0 {
         return false;
     }
-    if output != number(t, slots::TARGET + slots::PRESELECTION_STRIDE * k) {
+    if output != natural(t, slots::TARGET + slots::PRESELECTION_STRIDE * k) {
         return false;
     }
-    number(t, slots::POLARITY + slots::PRESELECTION_STRIDE * j)
-        != number(t, slots::POLARITY + slots::PRESELECTION_STRIDE * k)
+    natural(t, slots::POLARITY + slots::PRESELECTION_STRIDE * j)
+        != natural(t, slots::POLARITY + slots::PRESELECTION_STRIDE * k)
 }
 
 // Whether some preselection differs from preselection j + 1.
-pub fn differs_from(t: &[i32; 104], j: usize) -> bool
+fn differs_from(t: &[i32; 104], j: usize) -> bool
     requires { ⌜ j < 4 ⌝ }
     ensures { λ r. ⌜ r ≡ differsFrom (now (t .entry)) j ⌝ }
 {
@@ -147,7 +147,7 @@ pub fn differs_from(t: &[i32; 104], j: usize) -> bool
 }
 
 // 9: two preselections on one output, polarities differ.
-pub fn polarities_differ(t: &[i32; 104]) -> bool
+fn polarities_differ(t: &[i32; 104]) -> bool
     ensures { λ r. ⌜ r ≡ polaritiesDiffer (now (t .entry)) ⌝ }
 {
     differs_from(t, 0) | differs_from(t, 1) | differs_from(t, 2) | differs_from(t, 3)

@@ -5,9 +5,9 @@ ghost use Prim.Native.Nat.{_<_};
 ghost use lib.ListN.{length};
 ghost use Rattle.integers.specs.Int.{P};
 ghost use Rattle.parameters.specs.Slots.{wordAt, natAt, withWord, withOffset, withPreselection};
-ghost use Rattle.parameters.specs.Load.{refusal, loadOf};
+ghost use Rattle.parameters.specs.Load.{refusedWith, loadOf};
 
-pub mod checks; // checks.rt: checks 3 to 9
+mod checks; // checks.rt: checks 3 to 9
 pub mod rows; // rows.rt: ranges and defaults, check 2
 pub mod slots; // slots.rt: the slots by name
 
@@ -20,7 +20,7 @@ pub fn word(t: &[i32; 104], slot: usize) -> i32
 }
 
 // A word that is not negative as a number, 0 for a negative one.
-pub fn unsigned(x: i32) -> u32
+fn unsigned(x: i32) -> u32
     ensures { λ r. ⌜ r ≡ P x ⌝ }
 {
     if x < 0 {
@@ -30,7 +30,7 @@ pub fn unsigned(x: i32) -> u32
 }
 
 // The number in a slot.
-pub fn number(t: &[i32; 104], slot: usize) -> u32
+pub fn natural(t: &[i32; 104], slot: usize) -> u32
     requires { ⌜ slot < 104 ⌝ }
     ensures { λ r. ⌜ r ≡ natAt (now (t .entry)) slot ⌝ }
 {
@@ -66,7 +66,7 @@ pub fn store_preselection(t: &mut [i32; 104], k: usize, x: i32)
 // What loading answers.
 pub struct Loaded {
     // 0, or the number of the check that refuses the table.
-    pub number: u32,
+    pub refusal: u32,
     // The slot that check 2 names, else 0.
     pub slot: usize,
     // The table, or the defaults where it is refused.
@@ -88,12 +88,12 @@ fn filled(words: &[i32]) -> [i32; 104]
 }
 
 // A refusal, with the defaults as filler.
-fn refused(number: u32, slot: usize) -> Loaded
-    ensures { λ r. ⌜ r ≡ refusal number slot ⌝ }
+fn refused(refusal: u32, slot: usize) -> Loaded
+    ensures { λ r. ⌜ r ≡ refusedWith refusal slot ⌝ }
 {
     let table = rows::defaults();
     Loaded {
-        number,
+        refusal,
         slot,
         table,
     }
@@ -116,7 +116,7 @@ pub fn load(words: &[i32]) -> Loaded
         return refused(n, 0);
     }
     Loaded {
-        number: 0,
+        refusal: 0,
         slot: 0,
         table: t,
     }

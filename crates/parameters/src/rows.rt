@@ -3,7 +3,7 @@ ghost use mathlib.Core.Path.{_≡_};
 ghost use Rattle.parameters.specs.Rows.{rowOf, rowAt, inRange, lowestOut, defaultTable};
 
 // A slot's row: the lowest word, the highest word, and the default.
-pub struct Row(pub i32, pub i32, pub i32);
+struct Row(i32, i32, i32);
 
 // Every slot's row, in the order of the slots; the points share the last.
 const ROWS: [Row; 57] = [
@@ -67,21 +67,21 @@ const ROWS: [Row; 57] = [
 ];
 
 // Where the row of a slot stands.
-pub fn row_of(slot: usize) -> usize
+fn row_of(slot: usize) -> usize
     ensures { λ r. ⌜ r ≡ rowOf slot ⌝ }
 {
     if slot < 56 { slot } else { 56 }
 }
 
 // The row of a slot.
-pub fn row_at(slot: usize) -> Row
+fn row_at(slot: usize) -> Row
     ensures { λ r. ⌜ r ≡ rowAt slot ⌝ }
 {
     ROWS[row_of(slot)]
 }
 
 // Whether a word is within the range of a slot.
-pub fn in_range(slot: usize, v: i32) -> bool
+fn in_range(slot: usize, v: i32) -> bool
     ensures { λ r. ⌜ r ≡ inRange slot v ⌝ }
 {
     let row = row_at(slot);
@@ -92,7 +92,7 @@ pub fn in_range(slot: usize, v: i32) -> bool
 }
 
 // The lowest slot out of range, 104 where there is none.
-pub fn lowest_out(t: [i32; 104]) -> usize
+pub(crate) fn lowest_out(t: [i32; 104]) -> usize
     ensures { λ r. ⌜ r ≡ lowestOut t ⌝ }
 {
     let mut i: usize = 0;

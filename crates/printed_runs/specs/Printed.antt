@@ -40,7 +40,7 @@ numberedLines n (e ∷ es) (a ∷ answers) = eventLine n e a ++ numberedLines (n
 
 pub record PrintedRun (input : List ℕ) : Type 0 where
   -- what is printed is what the run answers
-  pub printed : outputOf input ≡ headerLine ++ answerLines 0 (logIn input .events) (answersIn input) ++ endLine (logIn input .number)
+  pub printed : outputOf input ≡ headerLine ++ answerLines 0 (logIn input .events) (answersIn input) ++ endLine (logIn input .refusal)
   -- "Events are counted from 1": in every run of fewer than 10 ^ 18 events
   pub numbered : length (logIn input .events) ≤ largest → answerLines 0 (logIn input .events) (answersIn input) ≡ numberedLines 1 (logIn input .events) (answersIn input)
   -- demand 3 of the run

@@ -42,7 +42,7 @@ numbered-lines count (e ∷ es) (a ∷ answers) h = rw (nextCount-next count (om
 
 -- a table that loads
 module _ (t : List ℤ) (loads : loadRefusal t ≡ 0) where
-  loaded-number : loadedOf t .number ≡ 0
+  loaded-number : loadedOf t .refusal ≡ 0
   unfolding loadedOf
   loaded-number = answer-number t ∙ loads
 

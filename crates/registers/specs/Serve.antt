@@ -22,12 +22,12 @@ use Rattle.registers.specs.declared.Response.{Response}
 pub record Served : Type 0 where
   pub state : State
   pub reply : Reply
-  pub number : ℕ
+  pub refusal : ℕ
   pub afresh : Bool
 
 -- the same, of a table and the response beside it
 abbrev pub servedBy : List ℤ → Response → Served
-servedBy t r = record { state = stateOf t (r .live); reply = r .reply; number = r .number; afresh = r .afresh }
+servedBy t r = record { state = stateOf t (r .live); reply = r .reply; refusal = r .refusal; afresh = r .afresh }
 
 -- ---- the map
 
@@ -46,10 +46,10 @@ unfoldable pub sent : Bool → Reply → Reply
 sent due reply = cond due reply (packed [])
 
 abbrev pub unchangedBy : Live → Reply → ℕ → Response
-unchangedBy l reply n = record { live = l; reply = reply; number = n; afresh = false }
+unchangedBy l reply n = record { live = l; reply = reply; refusal = n; afresh = false }
 
 abbrev pub unchanged : State → Reply → ℕ → Served
-unchanged s reply n = record { state = s; reply = reply; number = n; afresh = false }
+unchanged s reply n = record { state = s; reply = reply; refusal = n; afresh = false }
 
 -- ---- a write
 
@@ -60,7 +60,7 @@ writtenTable s register z = withWord (s .table) (slotIn register) z
 -- "starts afresh with it"
 abbrev pub carriedOut : ℕ → State → Bool → ℕ → ℤ → Served
 carriedOut node s due register z =
-    record { state = freshOf (writtenTable s register z); reply = sent due (packed (writeReply node register)); number = 0; afresh = true }
+    record { state = freshOf (writtenTable s register z); reply = sent due (packed (writeReply node register)); refusal = 0; afresh = true }
 
 -- "passes it through every load check ..; a failed check changes nothing and is answered by exception 3"
 unfoldable pub writtenOf : ℕ → State → Bool → ℕ → ℤ → Served

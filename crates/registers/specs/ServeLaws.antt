@@ -223,17 +223,17 @@ teach-read node s k h o v =
 -- what the code makes of a load that is not refused
 abbrev pub started : ℕ → List ℤ → Loaded → Bool → ℕ → Served
 started node t l due register =
-    record { state = stateOf t (l .state .live); reply = sent due (packed (writeReply node register)); number = 0; afresh = true }
+    record { state = stateOf t (l .state .live); reply = sent due (packed (writeReply node register)); refusal = 0; afresh = true }
 
 module _ (node : ℕ) (s : State) (due : Bool) (register : ℕ) (z : ℤ) (t : List ℤ) (l : Loaded) (e : t ≡ writtenTable s register z) (k : l ≡ loadedOf t) where
-  number-of-load : l .number ≡ loadRefusal (writtenTable s register z)
+  number-of-load : l .refusal ≡ loadRefusal (writtenTable s register z)
   unfolding loadedOf
   number-of-load = rw (k, e) (answer-number (writtenTable s register z))
 
-  pub refused-write : (l .number ≡ 0 → ⊥) → unchanged s (sent due (packed (exceptionReply node writeFunction 3))) 0 ≡ writtenOf node s due register z
+  pub refused-write : (l .refusal ≡ 0 → ⊥) → unchanged s (sent due (packed (exceptionReply node writeFunction 3))) 0 ≡ writtenOf node s due register z
   unfolding writtenOf
   refused-write n = rw (ne-eqb (loadRefusal (writtenTable s register z)) 0 (λ q. n (number-of-load ∙ q)))
 
-  pub write-done : l .number ≡ 0 → started node t l due register ≡ writtenOf node s due register z
+  pub write-done : l .refusal ≡ 0 → started node t l due register ≡ writtenOf node s due register z
   unfolding writtenOf loadedOf freshOf
   write-done n = rw (eq-eqb (loadRefusal (writtenTable s register z)) 0 (sym number-of-load ∙ n), k, e)

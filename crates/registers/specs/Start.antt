@@ -15,4 +15,4 @@ isNode node = leb 1 node && leb node 247
 
 -- 33 "another node address at the start, tested before the load, nothing starts": the defaults' fresh state is a filler, as in a refused load
 unfoldable pub startedOf : ℕ → List ℤ → Loaded
-startedOf node ws = cond (isNode node) (loadedOf ws) (record { number = 33; slot = 0; state = freshOf defaultTable })
+startedOf node ws = cond (isNode node) (loadedOf ws) (record { refusal = 33; slot = 0; state = freshOf defaultTable })

@@ -40,9 +40,9 @@ pub record Starts (node : ℕ) (t : List ℤ) (l : Loaded) : Type 0 where
   pub loads : loadRefusal t ≡ 0
   pub fresh : l .state ≡ freshOf t
 
-pub starts : (node : ℕ) (t : List ℤ) → startedOf node t .number ≡ 0 → Starts node t (startedOf node t)
+pub starts : (node : ℕ) (t : List ℤ) → startedOf node t .refusal ≡ 0 → Starts node t (startedOf node t)
 unfolding startedOf loadedOf
 starts node t =
-    by-test (isNode node) (loadedOf t) _ (λ (l : Loaded). l .number ≡ 0 → Starts node t l)
+    by-test (isNode node) (loadedOf t) _ (λ (l : Loaded). l .refusal ≡ 0 → Starts node t l)
     (λ is e. let k = sym (answer-number t) ∙ e in record { address = node-most node (is-true (isNode node) is); loads = k; fresh = ap freshOf (answer-table t k) })
     (λ _ e. absurd (omega arith))

@@ -28,7 +28,7 @@ pub struct Response {
     // The reply's bytes, none where no reply is due.
     pub reply: Reply,
     // 20 for a broken frame, else 0.
-    pub number: u8,
+    pub refusal: u8,
     // Whether a write was carried out, so that the panel started afresh.
     pub afresh: bool,
 }
@@ -53,7 +53,7 @@ pub fn start(node: u32, words: &[i32]) -> Loaded
     }
     let s = state::fresh(parameters::rows::defaults());
     Loaded {
-        number: 33,
+        refusal: 33,
         slot: 0,
         state: s,
     }
@@ -85,13 +85,13 @@ fn send(due: bool, reply: Reply) -> Reply
 }
 
 // A frame that changes nothing.
-fn unchanged(l: Live, reply: Reply, number: u8) -> Response
-    ensures { λ r. ⌜ r ≡ unchangedBy l reply number ⌝ }
+fn unchanged(l: Live, reply: Reply, refusal: u8) -> Response
+    ensures { λ r. ⌜ r ≡ unchangedBy l reply refusal ⌝ }
 {
     Response {
         live: l,
         reply,
-        number,
+        refusal,
         afresh: false,
     }
 }
@@ -103,7 +103,7 @@ fn write(node: u8, t: &mut [i32; 104], l: Live, due: bool, register: u16, z: i32
     let slot = (register / 2) as usize;
     let next = parameters::changed(*t, slot, z);
     let x = panel::load(&next);
-    if x.number != 0 {
+    if x.refusal != 0 {
         return unchanged(
             l,
             send(due, replies::exception_reply(node, modbus::WRITE, 3)),
@@ -116,7 +116,7 @@ fn write(node: u8, t: &mut [i32; 104], l: Live, due: bool, register: u16, z: i32
     Response {
         live,
         reply: send(due, replies::write_reply(node, register)),
-        number: 0,
+        refusal: 0,
         afresh: true,
     }
 }

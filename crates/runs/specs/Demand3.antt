@@ -1,5 +1,6 @@
--- DEMAND 3, stated. For every table that loads and every list of events from its fresh state: the result last answered lies within 1/2 + S/2 of the
--- exact curve, 1/2 with linearization off; and a condition with hysteresis has changed k times only if the result travelled (k − 1)(h + 1).
+-- DEMAND 3, stated. For every table that loads and every list of events from its fresh state: if a telegram was accepted and no error is in force, the result last
+-- answered lies within 1/2 + S/2 of the exact curve, 1/2 with linearization off; and if no command of the list stored a preselection, a condition with hysteresis has
+-- changed k times only if the result travelled (k − 1)(h + 1).
 -- Paper 01, "Runs". One claim about the list. This file is definitions only; `demand3` of Demand3Laws proves it.
 use mathlib.Core.Path.{_≡_}
 use mathlib.Core.Bool.{false, not}

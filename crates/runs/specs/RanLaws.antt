@@ -17,26 +17,26 @@ use Rattle.runs.specs.Ran.{ran, ranOf, Promised}
 use Rattle.runs.specs.Run.{answersOf, lastOf, lastAnswer}
 
 -- load's number is the table's
-number-is : (t : List ℤ) → loadedOf t .number ≡ loadRefusal t
+number-is : (t : List ℤ) → loadedOf t .refusal ≡ loadRefusal t
 unfolding loadedOf
 number-is t = answer-number t
 
-pub refused-run : (t : List ℤ) (es : List Event) → (loadedOf t .number ≡ 0 → ⊥) → ran (loadedOf t .number) (loadedOf t .slot) (answerOf (loadedOf t .state) 0) ≡ ranOf t es
+pub refused-run : (t : List ℤ) (es : List Event) → (loadedOf t .refusal ≡ 0 → ⊥) → ran (loadedOf t .refusal) (loadedOf t .slot) (answerOf (loadedOf t .state) 0) ≡ ranOf t es
 unfolding ranOf
 refused-run t es n = rw (ne-eqb (loadRefusal t) 0 (λ z. n (number-is t ∙ z)))
 
-pub refused-promise : (t : List ℤ) (es : List Event) (r : Ran) → (loadedOf t .number ≡ 0 → ⊥) → Promised t es r
+pub refused-promise : (t : List ℤ) (es : List Event) (r : Ran) → (loadedOf t .refusal ≡ 0 → ⊥) → Promised t es r
 refused-promise t es r n = record { last = λ z. absurd (n (number-is t ∙ z)); claim = λ z. absurd (n (number-is t ∙ z)) }
 
 -- the run of a loaded table starts from its fresh state
 from-load : (s : State) → List Event → Answer
 from-load s es = lastOf (answerOf s 0) (answersOf s es)
 
-pub loaded-last : (t : List ℤ) (es : List Event) → loadedOf t .number ≡ 0 → lastOf (answerOf (loadedOf t .state) 0) (answersOf (loadedOf t .state) es) ≡ lastAnswer t es
+pub loaded-last : (t : List ℤ) (es : List Event) → loadedOf t .refusal ≡ 0 → lastOf (answerOf (loadedOf t .state) 0) (answersOf (loadedOf t .state) es) ≡ lastAnswer t es
 unfolding loadedOf from-load
 loaded-last t es z = ap (λ (u : List ℤ). from-load (freshOf u) es) (answer-table t (sym (number-is t) ∙ z))
 
-pub loaded-run : (t : List ℤ) (es : List Event) (a : Answer) → loadedOf t .number ≡ 0 → a ≡ lastAnswer t es → ran 0 0 a ≡ ranOf t es
+pub loaded-run : (t : List ℤ) (es : List Event) (a : Answer) → loadedOf t .refusal ≡ 0 → a ≡ lastAnswer t es → ran 0 0 a ≡ ranOf t es
 unfolding ranOf
 loaded-run t es a z e = rw (eq-eqb (loadRefusal t) 0 (sym (number-is t) ∙ z)) (ap (ran 0 0) e)
 

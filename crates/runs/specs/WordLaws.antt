@@ -16,18 +16,18 @@ use Rattle.runs.specs.Words.{eventOf, eventsIn, wordOf, Held}
 
 pub word-back : (e : Event) → Held e → eventOf (wordOf e) ≡ e
 unfolding eventOf
-word-back (Telegram w) h =
-    let k : w / 4294967296 ≡ 0 = omega arith in
-    let r : w % 4294967296 ≡ w = omega arith in
-    rw (eq-eqb (w / 4294967296) 0 k) (ap Telegram r)
+word-back (Tick ms) h =
+    let k : ms / 4294967296 ≡ 0 = omega arith in
+    let r : ms % 65536 ≡ ms = omega arith in
+    rw (eq-eqb (ms / 4294967296) 0 k) (ap Tick r)
 word-back (Levels l) h =
     let k : (4294967296 + l) / 4294967296 ≡ 1 = omega arith in
     let r : (4294967296 + l) % 256 ≡ l = omega arith in
     rw k (ap Levels r)
-word-back (Tick ms) h =
-    let k : (8589934592 + ms) / 4294967296 ≡ 2 = omega arith in
-    let r : (8589934592 + ms) % 65536 ≡ ms = omega arith in
-    rw k (ap Tick r)
+word-back (Telegram w) h =
+    let k : (8589934592 + w) / 4294967296 ≡ 2 = omega arith in
+    let r : (8589934592 + w) % 4294967296 ≡ w = omega arith in
+    rw k (ap Telegram r)
 
 -- one more word of a list, and the end
 module _ (a : Answer) (ws : List ℕ) (i : ℕ) where

@@ -8,18 +8,18 @@ ghost use Rattle.runs.specs.Ran.{ranOf, Promised};
 use events::Event;
 use panel::Answer;
 
-// The event that a word stands for: above its lower 32 bits the kind, 0 telegram, 1 levels, else tick.
+// The event that a word stands for: above its lower 32 bits the kind, as in a log: 0 tick, 1 levels, else telegram.
 pub fn event_of(w: u64) -> Event
     ensures { λ r. ⌜ r ≡ eventOf w ⌝ }
 {
     let kind = w / 4294967296;
     if kind == 0 {
-        return Event::Telegram((w % 4294967296) as u32);
+        return Event::Tick((w % 65536) as u16);
     }
     if kind == 1 {
         return Event::Levels((w % 256) as u8);
     }
-    Event::Tick((w % 65536) as u16)
+    Event::Telegram((w % 4294967296) as u32)
 }
 
 // The answer to the last of a list of events, from the answer before them.
@@ -41,7 +41,7 @@ pub fn run_on(a: Answer, log: &[u64]) -> Answer
 // What a run answers.
 pub struct Ran {
     // 0, or the number of the check that refuses the table.
-    pub number: u32,
+    pub refusal: u32,
     // The slot that check 2 names, else 0.
     pub slot: usize,
     // The answer to the last event; what the fresh state answers where there is none, of the defaults where the table is refused.
@@ -56,16 +56,16 @@ pub fn run(table: &[i32], log: &[u64]) -> Ran
     let l = panel::load(table);
     let s = l.state;
     let first = panel::answered(s, 0);
-    if l.number != 0 {
+    if l.refusal != 0 {
         return Ran {
-            number: l.number,
+            refusal: l.refusal,
             slot: l.slot,
             answer: first,
         };
     }
     let last = run_on(first, log);
     Ran {
-        number: 0,
+        refusal: 0,
         slot: 0,
         answer: last,
     }

@@ -32,4 +32,4 @@ pub record Started (node : ℕ) (t : List ℤ) : Type 0 where
   pub sessions : (xs : List Entry) → SessionDemand node t xs
 
 abbrev pub Demanded : Type 0
-Demanded = (node : ℕ) (t : List ℤ) → startedOf node t .number ≡ 0 → Started node t
+Demanded = (node : ℕ) (t : List ℤ) → startedOf node t .refusal ≡ 0 → Started node t

@@ -6,7 +6,7 @@ ghost use lib.ListN.{length};
 ghost use Rattle.settings.specs.Settings.{layoutOf, scalingOf, pointsOf, spanOf, preselectionOf, preselectionsOf, actionOf, configOf, inputAt};
 ghost use Rattle.parameters.specs.Slots.{bitsPerTurn};
 use measurement::Scaling;
-use parameters::number;
+use parameters::natural;
 use parameters::slots;
 use parameters::word;
 use ssi::Layout;
@@ -60,12 +60,12 @@ pub fn layout(t: &[i32; 104]) -> Layout
     ensures { λ r. ⌜ r ≡ layoutOf (now (t .entry)) ⌝ }
 {
     Layout {
-        resolution: number(t, slots::RESOLUTION),
-        format: number(t, slots::FORMAT),
-        high: number(t, slots::HIGH_BIT),
-        low: number(t, slots::LOW_BIT),
-        error_bit: number(t, slots::ERROR_BIT),
-        error_level: number(t, slots::ERROR_LEVEL),
+        resolution: natural(t, slots::RESOLUTION),
+        format: natural(t, slots::FORMAT),
+        high: natural(t, slots::HIGH_BIT),
+        low: natural(t, slots::LOW_BIT),
+        error_bit: natural(t, slots::ERROR_BIT),
+        error_level: natural(t, slots::ERROR_LEVEL),
     }
 }
 
@@ -73,7 +73,7 @@ pub fn layout(t: &[i32; 104]) -> Layout
 pub fn bits_per_turn(t: &[i32; 104]) -> u32
     ensures { λ r. ⌜ r ≡ bitsPerTurn (now (t .entry)) ⌝ }
 {
-    number(t, slots::BITS_PER_TURN)
+    natural(t, slots::BITS_PER_TURN)
 }
 
 // How a position becomes a result.
@@ -81,14 +81,14 @@ pub fn scaling(t: &[i32; 104]) -> Scaling
     ensures { λ r. ⌜ r ≡ scalingOf (now (t .entry)) ⌝ }
 {
     Scaling {
-        direction: number(t, slots::DIRECTION),
+        direction: natural(t, slots::DIRECTION),
         offset: word(t, slots::OFFSET),
-        round_loop: number(t, slots::ROUND_LOOP),
-        factor: number(t, slots::FACTOR),
-        divider: number(t, slots::DIVIDER),
+        round_loop: natural(t, slots::ROUND_LOOP),
+        factor: natural(t, slots::FACTOR),
+        divider: natural(t, slots::DIVIDER),
         additive: word(t, slots::ADDITIVE),
-        linearization: number(t, slots::LINEARIZATION),
-        used: number(t, slots::POINTS_IN_USE) as usize,
+        linearization: natural(t, slots::LINEARIZATION),
+        used: natural(t, slots::POINTS_IN_USE) as usize,
     }
 }
 
@@ -105,7 +105,7 @@ pub fn analog_span(t: &[i32; 104]) -> Span
     ensures { λ r. ⌜ r ≡ spanOf (now (t .entry)) ⌝ }
 {
     Span {
-        format: number(t, slots::ANALOG_FORMAT),
+        format: natural(t, slots::ANALOG_FORMAT),
         start: word(t, slots::ANALOG_START),
         end: word(t, slots::ANALOG_END),
     }
@@ -119,13 +119,13 @@ fn preselection(t: &[i32; 104], k: usize) -> Preselection
     let at = slots::PRESELECTION_STRIDE * k;
     Preselection {
         value: word(t, slots::PRESELECTION + at),
-        mode: number(t, slots::MODE + at),
-        hysteresis: number(t, slots::HYSTERESIS + at),
-        pulse: number(t, slots::PULSE + at),
-        target: number(t, slots::TARGET + at),
-        polarity: number(t, slots::POLARITY + at),
-        lock: number(t, slots::LOCK + at),
-        startup: number(t, slots::STARTUP + at),
+        mode: natural(t, slots::MODE + at),
+        hysteresis: natural(t, slots::HYSTERESIS + at),
+        pulse: natural(t, slots::PULSE + at),
+        target: natural(t, slots::TARGET + at),
+        polarity: natural(t, slots::POLARITY + at),
+        lock: natural(t, slots::LOCK + at),
+        startup: natural(t, slots::STARTUP + at),
     }
 }
 
@@ -177,7 +177,7 @@ pub fn input_at(t: &[i32; 104], i: usize) -> Input
 {
     let at = slots::INPUT_STRIDE * i;
     Input {
-        action: action_of(number(t, slots::ACTION + at)),
-        config: config_of(number(t, slots::CONFIG + at)),
+        action: action_of(natural(t, slots::ACTION + at)),
+        config: config_of(natural(t, slots::CONFIG + at)),
     }
 }

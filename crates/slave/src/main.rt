@@ -246,9 +246,9 @@ fn open_events(node: u8, state: State)
 // Starts the panel, or says why it does not start.
 fn start(node: u32, words: [i32; 104]) {
     let l = registers::start(node, &words);
-    if l.number != 0 {
+    if l.refusal != 0 {
         io::write_all(STDERR_FILENO, b"slave: start ");
-        io::print_decimal(STDERR_FILENO, l.number as u64);
+        io::print_decimal(STDERR_FILENO, l.refusal as u64);
         io::write_all(STDERR_FILENO, b" ");
         io::print_decimal(STDERR_FILENO, l.slot as u64);
         io::write_all(STDERR_FILENO, b"\n");

@@ -6,8 +6,8 @@ use Rattle.settings.specs.Settings.{spanOf}
 use Rattle.settings.proofs.analog_span.Statement.{statement}
 use Rattle.settings.proofs.analog_span.Tie as tie
 
-number-requires : tie.Need-number-requires
-number-requires c κs = search needs
+natural-requires : tie.Need-natural-requires
+natural-requires c κs = search needs
 
 word-requires : tie.Need-word-requires
 word-requires c κs = search needs
@@ -22,10 +22,10 @@ returns c =
     rw (
       back-at w32 (b .word .result) (b .word .ok),
       back-at w32 (c .word2 .result) (c .word2 .ok),
-      b .before .number .ensures,
+      b .before .natural .ensures,
       b .word .ensures,
       c .word2 .ensures,
     )
 
 pub analog-span-spec : {M : Type 1} → statement M
-analog-span-spec = tie.close (tie.spec number-requires word-requires word-requires-2 returns)
+analog-span-spec = tie.close (tie.spec natural-requires word-requires word-requires-2 returns)

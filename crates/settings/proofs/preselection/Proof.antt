@@ -15,47 +15,47 @@ add-word c = search needs
 word-requires : tie.Need-word-requires
 word-requires c κs = search needs
 
-add-number : tie.Need-add-number
-add-number c = search needs
+add-natural : tie.Need-add-natural
+add-natural c = search needs
 
-number-requires : tie.Need-number-requires
-number-requires c κs = search needs
+natural-requires : tie.Need-natural-requires
+natural-requires c κs = search needs
 
-add-number-2 : tie.Need-add-number-2
-add-number-2 c = search needs
+add-natural-2 : tie.Need-add-natural-2
+add-natural-2 c = search needs
 
-number-requires-2 : tie.Need-number-requires-2
-number-requires-2 c κs = search needs
+natural-requires-2 : tie.Need-natural-requires-2
+natural-requires-2 c κs = search needs
 
-add-number-3 : tie.Need-add-number-3
-add-number-3 c = search needs
+add-natural-3 : tie.Need-add-natural-3
+add-natural-3 c = search needs
 
-number-requires-3 : tie.Need-number-requires-3
-number-requires-3 c κs = search needs
+natural-requires-3 : tie.Need-natural-requires-3
+natural-requires-3 c κs = search needs
 
-add-number-4 : tie.Need-add-number-4
-add-number-4 c = search needs
+add-natural-4 : tie.Need-add-natural-4
+add-natural-4 c = search needs
 
-number-requires-4 : tie.Need-number-requires-4
-number-requires-4 c κs = search needs
+natural-requires-4 : tie.Need-natural-requires-4
+natural-requires-4 c κs = search needs
 
-add-number-5 : tie.Need-add-number-5
-add-number-5 c = search needs
+add-natural-5 : tie.Need-add-natural-5
+add-natural-5 c = search needs
 
-number-requires-5 : tie.Need-number-requires-5
-number-requires-5 c κs = search needs
+natural-requires-5 : tie.Need-natural-requires-5
+natural-requires-5 c κs = search needs
 
-add-number-6 : tie.Need-add-number-6
-add-number-6 c = search needs
+add-natural-6 : tie.Need-add-natural-6
+add-natural-6 c = search needs
 
-number-requires-6 : tie.Need-number-requires-6
-number-requires-6 c κs = search needs
+natural-requires-6 : tie.Need-natural-requires-6
+natural-requires-6 c κs = search needs
 
-add-number-7 : tie.Need-add-number-7
-add-number-7 c = search needs
+add-natural-7 : tie.Need-add-natural-7
+add-natural-7 c = search needs
 
-number-requires-7 : tie.Need-number-requires-7
-number-requires-7 c κs = search needs
+natural-requires-7 : tie.Need-natural-requires-7
+natural-requires-7 c κs = search needs
 
 returns : tie.Need-returns
 unfolding preselectionOf
@@ -65,13 +65,13 @@ returns c = let b = c .before .before .before in
     rw (
       back-at w32 (w .result) (w .ok),
       w .ensures,
-      d .number .ensures,
-      b .before .before .number2 .ensures,
-      b .before .number3 .ensures,
-      b .number4 .ensures,
-      c .before .before .number5 .ensures,
-      c .before .number6 .ensures,
-      c .number7 .ensures,
+      d .natural .ensures,
+      b .before .before .natural2 .ensures,
+      b .before .natural3 .ensures,
+      b .natural4 .ensures,
+      c .before .before .natural5 .ensures,
+      c .before .natural6 .ensures,
+      c .natural7 .ensures,
     )
 
 pub preselection-spec : {M : Type 1} → statement M
@@ -81,18 +81,18 @@ preselection-spec =
     mul-at
     add-word
     word-requires
-    add-number
-    number-requires
-    add-number-2
-    number-requires-2
-    add-number-3
-    number-requires-3
-    add-number-4
-    number-requires-4
-    add-number-5
-    number-requires-5
-    add-number-6
-    number-requires-6
-    add-number-7
-    number-requires-7
+    add-natural
+    natural-requires
+    add-natural-2
+    natural-requires-2
+    add-natural-3
+    natural-requires-3
+    add-natural-4
+    natural-requires-4
+    add-natural-5
+    natural-requires-5
+    add-natural-6
+    natural-requires-6
+    add-natural-7
+    natural-requires-7
     returns)

@@ -5,62 +5,62 @@ use borrow.Author.Needs.{needs}
 use Rattle.parameters.proofs.checks.differs.Statement.{statement}
 use Rattle.parameters.proofs.checks.differs.Tie as tie
 
-mul-number : tie.Need-mul-number
-mul-number c = search needs
+mul-natural : tie.Need-mul-natural
+mul-natural c = search needs
 
-add-number : tie.Need-add-number
-add-number c = search needs
+add-natural : tie.Need-add-natural
+add-natural c = search needs
 
-number-requires : tie.Need-number-requires
-number-requires c κs = search needs
+natural-requires : tie.Need-natural-requires
+natural-requires c κs = search needs
 
 returns : tie.Need-returns
 unfolding differ
-returns c = rw (← c .before .number .ensures, eq-eqb _ _ (c .if1 .taken))
+returns c = rw (← c .before .natural .ensures, eq-eqb _ _ (c .if1 .taken))
 
-mul-number-2 : tie.Need-mul-number-2
-mul-number-2 c = search needs
+mul-natural-2 : tie.Need-mul-natural-2
+mul-natural-2 c = search needs
 
-add-number-2 : tie.Need-add-number-2
-add-number-2 c = search needs
+add-natural-2 : tie.Need-add-natural-2
+add-natural-2 c = search needs
 
-number-requires-2 : tie.Need-number-requires-2
-number-requires-2 c κs = search needs
+natural-requires-2 : tie.Need-natural-requires-2
+natural-requires-2 c κs = search needs
 
 returns-2 : tie.Need-returns-2
 unfolding differ
 returns-2 c = rw (
-  ← c .before .before .before .number .ensures,
-  ← c .before .number2 .ensures,
+  ← c .before .before .before .natural .ensures,
+  ← c .before .natural2 .ensures,
   ne-eqb _ _ (c .before .before .if1 .left),
   ne-eqb _ _ (c .if2 .taken),
 )
 
-mul-number-3 : tie.Need-mul-number-3
-mul-number-3 c = search needs
+mul-natural-3 : tie.Need-mul-natural-3
+mul-natural-3 c = search needs
 
-add-number-3 : tie.Need-add-number-3
-add-number-3 c = search needs
+add-natural-3 : tie.Need-add-natural-3
+add-natural-3 c = search needs
 
-number-requires-3 : tie.Need-number-requires-3
-number-requires-3 c κs = search needs
+natural-requires-3 : tie.Need-natural-requires-3
+natural-requires-3 c κs = search needs
 
-mul-number-4 : tie.Need-mul-number-4
-mul-number-4 c = search needs
+mul-natural-4 : tie.Need-mul-natural-4
+mul-natural-4 c = search needs
 
-add-number-4 : tie.Need-add-number-4
-add-number-4 c = search needs
+add-natural-4 : tie.Need-add-natural-4
+add-natural-4 c = search needs
 
-number-requires-4 : tie.Need-number-requires-4
-number-requires-4 c κs = search needs
+natural-requires-4 : tie.Need-natural-requires-4
+natural-requires-4 c κs = search needs
 
 returns-3 : tie.Need-returns-3
 unfolding differ
 returns-3 c = rw (
-  ← c .before .before .before .before .before .number .ensures,
-  ← c .before .before .before .number2 .ensures,
-  ← c .before .number3 .ensures,
-  ← c .number4 .ensures,
+  ← c .before .before .before .before .before .natural .ensures,
+  ← c .before .before .before .natural2 .ensures,
+  ← c .before .natural3 .ensures,
+  ← c .natural4 .ensures,
   ne-eqb _ _ (c .before .before .before .before .if1 .left),
   eq-eqb _ _ (c .before .before .if2 .left),
 )
@@ -69,18 +69,18 @@ pub differs-spec : {M : Type 1} → statement M
 differs-spec =
     tie.close
     (tie.spec
-    mul-number
-    add-number
-    number-requires
+    mul-natural
+    add-natural
+    natural-requires
     returns
-    mul-number-2
-    add-number-2
-    number-requires-2
+    mul-natural-2
+    add-natural-2
+    natural-requires-2
     returns-2
-    mul-number-3
-    add-number-3
-    number-requires-3
-    mul-number-4
-    add-number-4
-    number-requires-4
+    mul-natural-3
+    add-natural-3
+    natural-requires-3
+    mul-natural-4
+    add-natural-4
+    natural-requires-4
     returns-3)

@@ -7,8 +7,8 @@ use borrow.Author.Needs.{needs}
 use Rattle.parameters.proofs.checks.not_above.Statement.{statement}
 use Rattle.parameters.proofs.checks.not_above.Tie as tie
 
-number-requires : tie.Need-number-requires
-number-requires c κs = search needs
+natural-requires : tie.Need-natural-requires
+natural-requires c κs = search needs
 
 cast-used : tie.Need-cast-used
 cast-used c = search needs
@@ -44,7 +44,7 @@ returns c = let next = c .before .word in
     rw (
       back-at w32 (next .result) (next .ok),
       back-at w32 (here .result) (here .ok),
-      ← c .before .before .before .number .ensures,
+      ← c .before .before .before .natural .ensures,
       lt-ltb _ _ (c .before .before .if1 .taken),
       next .ensures,
       here .ensures,
@@ -52,13 +52,13 @@ returns c = let next = c .before .word in
 
 returns-2 : tie.Need-returns-2
 unfolding notAbove
-returns-2 c = rw (← c .before .number .ensures, le-ltb _ _ (c .if1 .left))
+returns-2 c = rw (← c .before .natural .ensures, le-ltb _ _ (c .if1 .left))
 
 pub not-above-spec : {M : Type 1} → statement M
 not-above-spec =
     tie.close
     (tie.spec
-    number-requires
+    natural-requires
     cast-used
     add-if1
     add-word

@@ -7,12 +7,12 @@ use borrow.Author.Needs.{needs}
 use Rattle.parameters.proofs.checks.origin_missing.Statement.{statement}
 use Rattle.parameters.proofs.checks.origin_missing.Tie as tie
 
-number-requires : tie.Need-number-requires
-number-requires c κs = search needs
+natural-requires : tie.Need-natural-requires
+natural-requires c κs = search needs
 
 returns : tie.Need-returns
 unfolding originMissing
-returns c = rw (← c .before .number .ensures, ne-eqb _ _ (c .if1 .taken))
+returns c = rw (← c .before .natural .ensures, ne-eqb _ _ (c .if1 .taken))
 
 word-requires : tie.Need-word-requires
 word-requires c κs = search needs
@@ -34,7 +34,7 @@ returns-2 c = let x = c .before .before .before .before .word in
       c .same2 .ensures,
       back-at w32 (y .result) (y .ok),
       y .ensures,
-      ← c .before .before .before .before .before .before .number .ensures,
+      ← c .before .before .before .before .before .before .natural .ensures,
       eq-eqb _ _ (c .before .before .before .before .before .if1 .left),
       ← x .ensures,
       ← back-at w32 (x .result) (x .ok),
@@ -46,7 +46,7 @@ returns-3 : tie.Need-returns-3
 unfolding originMissing
 returns-3 c = let x = c .before .before .word in
     rw (
-      ← c .before .before .before .before .number .ensures,
+      ← c .before .before .before .before .natural .ensures,
       eq-eqb _ _ (c .before .before .before .if1 .left),
       ← x .ensures,
       ← back-at w32 (x .result) (x .ok),
@@ -58,7 +58,7 @@ pub origin-missing-spec : {M : Type 1} → statement M
 origin-missing-spec =
     tie.close
     (tie.spec
-    number-requires
+    natural-requires
     returns
     word-requires
     same-requires

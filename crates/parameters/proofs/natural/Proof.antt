@@ -4,8 +4,8 @@ use lib.IntN.{pos}
 use mir.Syntax.{w32}
 use Rattle.integers.specs.IntLaws.{back-at}
 use borrow.Author.Needs.{needs}
-use Rattle.parameters.proofs.number.Statement.{statement}
-use Rattle.parameters.proofs.number.Tie as tie
+use Rattle.parameters.proofs.natural.Statement.{statement}
+use Rattle.parameters.proofs.natural.Tie as tie
 
 mul-unsigned : tie.Need-mul-unsigned
 mul-unsigned c = search needs
@@ -20,5 +20,5 @@ returns : tie.Need-returns
 returns c = let a = c .before .before .args in
     rw (c .unsigned .ensures, back-at w32 (getD (a .t .now) (a .slot) (pos 0)) (c .before .unsigned-arg .given))
 
-pub number-spec : {M : Type 1} → statement M
-number-spec = tie.close (tie.spec mul-unsigned element-copy-out-unsigned unsigned-requires returns)
+pub natural-spec : {M : Type 1} → statement M
+natural-spec = tie.close (tie.spec mul-unsigned element-copy-out-unsigned unsigned-requires returns)
