@@ -1,5 +1,7 @@
 //! Recorded answers that panelrun does not print: the builder's, the reading and the diagnosis of a
-//! telegram, and least and greatest after a log. Each case is one table with questions on it.
+//! telegram, and least and greatest after a log. Each case is one table with a log and questions.
+
+use std::fmt::Write;
 
 use crate::generate::logs;
 use crate::generate::moment::{self, Moment};
@@ -9,6 +11,7 @@ use crate::panel::{Event, Extremes};
 use crate::panelrun;
 use crate::record::Recording;
 use crate::rng::Rng;
+use crate::sheet;
 use crate::table::{self, slot, Table, SLOTS};
 use crate::telegram;
 
@@ -16,10 +19,8 @@ use crate::telegram;
 pub const QUESTIONS: usize = 5;
 /// Words of a question and of its answers.
 pub const QUESTION_WORDS: usize = 11;
-/// Words of the log; behind its last event stand ticks of 0 ms, which change nothing.
-pub const LOG_WORDS: usize = 20;
-/// Words of a case: table, questions, log, and whether there are least and greatest, and they.
-pub const CASE_WORDS: usize = SLOTS + QUESTIONS * QUESTION_WORDS + LOG_WORDS + 3;
+/// Most words of a log.
+const LOG_WORDS: usize = 20;
 
 /// Tables tried for a case, and logs tried on each.
 const TABLES: usize = 500;
@@ -44,15 +45,12 @@ pub struct Question {
     pub telegram: u32,
 }
 
-/// The cases of a seed, in one file, and a line for each.
-pub fn recording(seed: u64, count: u64) -> Recording {
-    let mut recording = Recording::new("answers");
-    for index in 0..count {
-        let case = case(seed, index);
-        recording.cases.extend(case.words().into_iter().flat_map(u32::to_le_bytes));
-        recording.purposes.push_str(&format!("{} {}\n", index + 1, case.purpose()));
-    }
-    recording
+/// Records a case of a seed.
+pub fn record(recording: &mut Recording, seed: u64, index: u64) {
+    let case = case(seed, index);
+    let (input, output) = case.text(&format!("table {}: {}", index + 1, case.purpose()));
+    recording.input.extend(input.bytes());
+    recording.output.push_str(&output);
 }
 
 /// A case of a seed: resolutions, formats and moments in turn, and half of the 32 bits all position.
@@ -135,20 +133,21 @@ fn any_telegram(rng: &mut Rng, table: &Table) -> u32 {
 }
 
 impl Case {
-    /// The case as the file has it.
-    pub fn words(&self) -> Vec<u32> {
+    /// The lines of the case under a name, and what is printed for them.
+    pub fn text(&self, name: &str) -> (String, String) {
+        let run = panelrun::input_of(&self.table, &self.log);
+        let mut input = sheet::run(name, &run);
+        let mut output = format!("== {name}\n{}", panelrun::run(&run));
         let table = table::load(&self.table).unwrap();
-        let mut words: Vec<u32> = self.table.iter().map(|&word| word as u32).collect();
         for question in &self.questions {
-            words.extend(question.words(&table));
+            question.put(&table, &mut input, &mut output);
         }
-        words.extend(&self.log);
-        words.resize(SLOTS + QUESTIONS * QUESTION_WORDS + LOG_WORDS, 0);
-        words.extend(match self.extremes {
-            None => [0, 0, 0],
-            Some(Extremes { least, greatest }) => [1, least as u32, greatest as u32],
-        });
-        words
+        input.push_str("extremes\n");
+        let Extremes { least, greatest } =
+            self.extremes.unwrap_or(Extremes { least: 0, greatest: 0 });
+        let any = u8::from(self.extremes.is_some());
+        writeln!(output, "extremes {any} {least} {greatest}").unwrap();
+        (input, output)
     }
 
     /// The telegram's layout, and what happens to least and greatest.
@@ -171,6 +170,17 @@ impl Case {
 }
 
 impl Question {
+    /// The lines of the question, and what is printed for them.
+    fn put(&self, table: &Table, input: &mut String, output: &mut String) {
+        let [position, asked, refusal, built, telegram, note, p, error, refused, turns, place] =
+            self.words(table);
+        let word = if asked == 1 { "fault" } else { "build" };
+        writeln!(input, "{word} {position}\nread {telegram}\ndiagnose {telegram}").unwrap();
+        writeln!(output, "build {position} {refusal} {built}").unwrap();
+        writeln!(output, "read {note} {p} {error}").unwrap();
+        writeln!(output, "diagnose {refused} {turns} {place}").unwrap();
+    }
+
     /// Position and error asked for, the builder's refusal and telegram; telegram, its refusal,
     /// position and error (0 and none with 11); the diagnosis' refusal, turns and place.
     pub fn words(&self, table: &Table) -> [u32; QUESTION_WORDS] {

@@ -1,5 +1,5 @@
-//! Separate test code of the panel indicator engine: an independent model, written from the paper
-//! alone, with random cases and comparisons.
+//! Separate test code of the panel indicator engine: a second reading of the papers and of their
+//! settled open points, with random cases and comparisons.
 
 pub mod analog;
 pub mod answers;
@@ -20,6 +20,7 @@ pub mod record;
 pub mod rng;
 pub mod serve;
 pub mod sessions;
+pub mod sheet;
 pub mod slave;
 pub mod table;
 pub mod tally;

@@ -6,7 +6,7 @@ use std::path::Path;
 use std::process::ExitCode;
 
 use model::record::{self, Recording};
-use model::{answers, bench, console, differ, generate, panelrun, print, serve, sessions, slave};
+use model::{bench, console, differ, generate, panelrun, print, serve, sessions, slave};
 
 const USAGE: &str = "usage:
   model run < input > output
@@ -16,8 +16,9 @@ const USAGE: &str = "usage:
   model generate SEED CASE > input
   model differ PANELRUN_PATH SEED COUNT
   model differ-console CONSOLE_PATH SEED COUNT
-  model record KIND SEED COUNT DIR   (runs, answers or sessions)
-  model check KIND SEED COUNT DIR
+  model record runs SEED RUNS TABLES DIR
+  model record sessions SEED COUNT DIR
+  model check ..                   (as record: whether the files are those of the seed)
   model step ROUNDS < input        (a sum over all answers)
   model events KIND N > input      (telegrams, levels, ticks or mixed)
   model serve ROUNDS < input       (a sum over all replies)
@@ -49,12 +50,8 @@ fn command(words: &[&str]) -> io::Result<bool> {
         ["differ-console", program, seed, count] => {
             compare_console(program, number(seed)?, number(count)?)
         }
-        ["record", kind, seed, count, folder] => {
-            write_record(&recording(kind, number(seed)?, number(count)?)?, folder)
-        }
-        ["check", kind, seed, count, folder] => {
-            check_record(&recording(kind, number(seed)?, number(count)?)?, folder)
-        }
+        ["record", words @ .., folder] => write_record(&recording(words)?, folder),
+        ["check", words @ .., folder] => check_record(&recording(words)?, folder),
         ["step", rounds] => step(number(rounds)?),
         ["events", kind, count] if bench::KINDS.contains(kind) => {
             io::stdout().lock().write_all(&bench::input(kind, number(count)? as usize))?;
@@ -121,18 +118,19 @@ fn compare_console(program: &str, seed: u64, count: u64) -> io::Result<bool> {
     Ok(true)
 }
 
-fn recording(kind: &str, seed: u64, count: u64) -> io::Result<Recording> {
-    match kind {
-        "runs" => Ok(record::recording(seed, count)),
-        "answers" => Ok(answers::recording(seed, count)),
-        "sessions" => Ok(sessions::recording(seed, count)),
+fn recording(words: &[&str]) -> io::Result<Recording> {
+    match words {
+        ["runs", seed, runs, tables] => {
+            Ok(record::recording(number(seed)?, number(runs)?, number(tables)?))
+        }
+        ["sessions", seed, count] => Ok(sessions::recording(number(seed)?, number(count)?)),
         _ => Err(io::Error::other(USAGE)),
     }
 }
 
 fn write_record(recording: &Recording, folder: &str) -> io::Result<bool> {
     recording.write(Path::new(folder))?;
-    println!("{}: {} bytes", recording.name, recording.cases.len());
+    println!("{}: {} bytes", recording.name, recording.input.len());
     Ok(true)
 }
 

@@ -16,14 +16,14 @@ const LONG_BYTES: usize = 2_600;
 
 /// The sessions of a seed; the first before any start, the last without its newline.
 pub fn recording(seed: u64, count: u64) -> Recording {
-    let mut recording = Recording::of_a_program("sessions");
+    let mut recording = Recording::new("sessions");
     let mut console = Console::default();
     let mut met = Tally::default();
     for index in 0..count {
         let purpose = purpose(index, count, &met);
         let (text, output, seen) = session(seed, index, count, &purpose, &mut console);
-        recording.cases.extend(text);
-        recording.purposes.push_str(&output);
+        recording.input.extend(text);
+        recording.output.push_str(&output);
         met.add(&seen);
     }
     recording

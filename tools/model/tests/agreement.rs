@@ -69,14 +69,14 @@ fn random_cases_meet_every_number() {
 #[test]
 fn every_theme_is_recorded() {
     let themes = theme::all().len() as u64;
-    let recording = record::recording(1, themes);
-    assert!(!recording.purposes.contains("anything"));
-    assert!(recording.cases.len() < 2_000 * themes as usize);
+    let recording = record::recording(1, themes, 0);
+    assert!(!recording.output.contains("anything"));
+    assert!(recording.input.len() < 2_000 * themes as usize);
 }
 
 #[test]
 fn recording_is_the_same_each_time() {
-    let (first, second) = (record::recording(5, 20), record::recording(5, 20));
-    assert_eq!(first.cases, second.cases);
-    assert_eq!(first.purposes, second.purposes);
+    let (first, second) = (record::recording(5, 20, 20), record::recording(5, 20, 20));
+    assert_eq!(first.input, second.input);
+    assert_eq!(first.output, second.output);
 }

@@ -3,11 +3,11 @@
 mod common;
 
 use common::{state_after, table, words, Levels, Telegram, Tick};
-use model::answers::{case, recording, Case, CASE_WORDS};
+use model::answers::{case, Case};
 use model::generate::moment::{self, Moment};
 use model::log;
 use model::panel::{Event, Extremes, State};
-use model::panelrun::{self, TABLE_BYTES};
+use model::panelrun;
 use model::table::{self, Format, Table};
 
 const CASES: u64 = 200;
@@ -91,18 +91,19 @@ fn answers_agree_with_each_other() {
 }
 
 #[test]
-fn a_case_is_its_table_answers_log_and_extremes() {
-    let recording = recording(1, CASES);
-    assert_eq!(recording.cases.len(), CASES as usize * 4 * CASE_WORDS);
-    for ((case, table), bytes) in cases().into_iter().zip(recording.cases.chunks(4 * CASE_WORDS)) {
-        assert_eq!(panelrun::load(bytes).unwrap(), table);
-        let (start, log) = (&bytes[..TABLE_BYTES], &bytes[TABLE_BYTES + 5 * 44..][..80]);
-        assert_eq!(last_state(&[start, log].concat()).extremes, case.extremes);
+fn a_case_is_its_run_its_answers_and_its_extremes() {
+    for (case, _) in cases() {
+        let run = panelrun::input_of(&case.table, &case.log);
+        assert_eq!(last_state(&run).extremes, case.extremes);
+        let (input, output) = case.text("a name");
+        let answers = output.strip_prefix(&format!("== a name\n{}", panelrun::run(&run))).unwrap();
+        assert_eq!(answers.lines().count(), 16);
+        assert_eq!(input.lines().filter(|line| line.starts_with("read ")).count(), 5);
         let tail = match case.extremes {
-            None => [0, 0, 0],
-            Some(Extremes { least, greatest }) => [1, least as i32, greatest as i32],
+            None => "extremes 0 0 0".to_string(),
+            Some(Extremes { least, greatest }) => format!("extremes 1 {least} {greatest}"),
         };
-        assert_eq!(bytes[4 * CASE_WORDS - 12..], tail.map(i32::to_le_bytes).concat());
+        assert_eq!(answers.lines().last().unwrap(), tail);
     }
 }
 
@@ -172,11 +173,4 @@ fn clear_and_reset_in_one_event_go_in_order() {
     let range = |slots: &[(usize, i32)]| state_after(&table(slots), &events).extremes;
     assert_eq!(range(&[(49, 4), (51, 1)]), Some(Extremes { least: 0, greatest: 6 }));
     assert_eq!(range(&[(49, 1), (51, 4)]), Some(Extremes { least: 0, greatest: 0 }));
-}
-
-#[test]
-fn recording_is_the_same_each_time() {
-    let (first, second) = (recording(5, 20), recording(5, 20));
-    assert_eq!(first.cases, second.cases);
-    assert_eq!(first.purposes, second.purposes);
 }

@@ -32,8 +32,8 @@ fn most_writes_are_carried_out() {
 #[test]
 fn recorded_sessions_meet_every_name() {
     let recording = model::sessions::recording(SEED, 60);
-    let (output, met) = tally::observe(&recording.cases);
-    assert_eq!(output, recording.purposes);
+    let (output, met) = tally::observe(&recording.input);
+    assert_eq!(output, recording.output);
     assert_eq!(met.missing(), Vec::<String>::new());
-    assert!(recording.cases.len() < 60_000);
+    assert!(recording.input.len() < 60_000);
 }

@@ -20,15 +20,17 @@ pub struct Case {
     pub input: Vec<u8>,
 }
 
-/// A case of a seed, with a log of up to a few hundred words.
+/// A case of a seed, with a log of up to a few hundred words; one in a thousand has a log that
+/// panelrun reads in three pieces or more.
 pub fn case(seed: u64, index: u64) -> Case {
     let mut rng = Rng::for_case(seed, index);
     let theme = theme::draw(&mut rng);
-    let events = match rng.weighted(&[4, 20, 46, 30]) {
+    let events = match rng.weighted(&[40, 200, 460, 299, 1]) {
         0 => 0,
         1 => rng.between(1, 8),
         2 => rng.between(9, 60),
-        _ => rng.between(60, 200),
+        3 => rng.between(60, 200),
+        _ => rng.between(4_200, 6_000),
     };
     themed(&mut rng, theme, events as usize)
 }
