@@ -8,7 +8,7 @@ use std::sync::Mutex;
 use std::thread;
 
 use crate::coverage::{self, Coverage};
-use crate::generate::{self, sessions};
+use crate::generate::{self, borders, sessions};
 use crate::tally::{self, Tally};
 
 /// Processes at a time.
@@ -50,11 +50,17 @@ struct Shared<'a, C> {
     found: Mutex<Option<Difference>>,
 }
 
-/// An input of panelrun from a seed.
+/// An input of panelrun: first the borders between its pieces, then random ones from a seed.
 pub fn panelrun_case(seed: u64, index: u64) -> Case<Coverage> {
-    let case = generate::case(seed, index);
-    let (expected, met) = coverage::observe(&case.input);
-    Case { purpose: case.theme.purpose(), input: case.input, expected, met }
+    let (purpose, input) = match borders::input(index) {
+        Some(input) => ("a border between pieces".into(), input),
+        None => {
+            let case = generate::case(seed, index);
+            (case.theme.purpose(), case.input)
+        }
+    };
+    let (expected, met) = coverage::observe(&input);
+    Case { purpose, input, expected, met }
 }
 
 /// A text of console from a seed.

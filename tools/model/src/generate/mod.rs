@@ -1,5 +1,6 @@
 //! Random inputs of panelrun and texts of console from a seed.
 
+pub mod borders;
 pub mod faults;
 pub mod frames;
 pub mod lines;
@@ -20,17 +21,15 @@ pub struct Case {
     pub input: Vec<u8>,
 }
 
-/// A case of a seed, with a log of up to a few hundred words; one in a thousand has a log that
-/// panelrun reads in three pieces or more.
+/// A case of a seed, with a log of up to a few hundred words.
 pub fn case(seed: u64, index: u64) -> Case {
     let mut rng = Rng::for_case(seed, index);
     let theme = theme::draw(&mut rng);
-    let events = match rng.weighted(&[40, 200, 460, 299, 1]) {
+    let events = match rng.weighted(&[4, 20, 46, 30]) {
         0 => 0,
         1 => rng.between(1, 8),
         2 => rng.between(9, 60),
-        3 => rng.between(60, 200),
-        _ => rng.between(4_200, 6_000),
+        _ => rng.between(60, 200),
     };
     themed(&mut rng, theme, events as usize)
 }
