@@ -80,7 +80,7 @@ abbrev pub loadedBy : Sheet → Loaded
 loadedBy s = loadedOf (tableOf (take (s .given) (bytesOf (map bitsOf (s .table)))))
 
 unfoldable pub afterStart : Sheet → Sheet
-afterStart s = withRun s (startOf (loadedBy s .state)) (eqb (loadedBy s .number) 0)
+afterStart s = withRun s (startOf (loadedBy s .state)) (eqb (loadedBy s .refusal) 0)
 
 unfoldable pub startText : Sheet → List ℕ
 startText s = openingText (loadedBy s)

@@ -123,7 +123,7 @@ log-most s line = by (isLog (wordsBehind line)) refl
 
 opening-most : (l : Loaded) → length (openingText l) ≤ room
 unfolding openingText
-opening-most l = by-test (eqb (l .number) 0) _ _ (λ (x : List ℕ). length x ≤ room) (λ _. omega (arith, header-line-at-most)) (λ _. omega (arith, load-line-at-most (l .number) (l .slot)))
+opening-most l = by-test (eqb (l .refusal) 0) _ _ (λ (x : List ℕ). length x ≤ room) (λ _. omega (arith, header-line-at-most)) (λ _. omega (arith, load-line-at-most (l .refusal) (l .slot)))
 
 numbers-most : (a b c : ℕ) → length (numbersText a b c) ≤ 60
 numbers-most a b c = simp length-append (omega (arith, text-at-most-19 (pos a), text-at-most-19 (pos b), text-at-most-19 (pos c)))

@@ -123,7 +123,7 @@ fn heading(s: Sheet, line: &[u8], out: &mut [u8]) -> Said
 fn opened(bytes: &[u8], n: usize, out: &mut [u8]) -> Opened
     requires { ⌜ longest ≤ length (now out) ⌝ }
     ensures is { λ r. ⌜ r .progress ≡ startOf (loadedOf (tableOf (take n (now (bytes .entry)))) .state) ⌝ }
-    ensures loads { λ r. ⌜ r .loaded ≡ eqb (loadedOf (tableOf (take n (now (bytes .entry)))) .number) 0 ⌝ }
+    ensures loads { λ r. ⌜ r .loaded ≡ eqb (loadedOf (tableOf (take n (now (bytes .entry)))) .refusal) 0 ⌝ }
     ensures text { λ r. ⌜ Put (now (out .entry)) 0 (openingText (loadedOf (tableOf (take n (now (bytes .entry)))))) (r .end) (now (out .exit)) ⌝ }
 {
     if n < bytes.len() {
