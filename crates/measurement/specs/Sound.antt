@@ -1,4 +1,4 @@
--- Which scalings and control points a loaded table can have: those that pass checks 2, 6 and 7 of paper 01, "Where each check sits".
+-- Which scalings and control points a loaded table can have: those that pass checks 2 and 6 of paper 01, "Where each check sits".
 -- `measure` asks for a sound scaling, its parts for what they need of it.
 use mathlib.Core.List.{List}
 use Prim.Native.Nat.{ℕ, zero, suc, _*_, _≤_, _<_}
