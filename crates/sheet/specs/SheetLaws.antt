@@ -18,7 +18,7 @@ use Rattle.events.specs.declared.Event.{Event}
 use Rattle.events.specs.declared.Event.the-variants as Event
 use Rattle.events.specs.declared.Taken.the-variants.{Happened}
 use Rattle.events.specs.Bytes.{wordsIn}
-use Rattle.integers.specs.Choice.{by-test}
+use Rattle.integers.specs.ChoiceLaws.{by-test}
 use Rattle.integers.specs.TwosComplement.{bitsOf}
 use Rattle.lines.specs.Lines.{eventLine, nextCount}
 use Rattle.lines.specs.LineLaws.{header-line-at-most, load-line-at-most, end-line-at-most}

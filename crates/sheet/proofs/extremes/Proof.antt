@@ -2,7 +2,7 @@
 use mathlib.Core.Path.{_≡_}
 use native.Mathlib.Omega.{arith}
 use mir.Syntax.{w32}
-use Rattle.integers.specs.Int.{bk}
+use Rattle.integers.specs.IntLaws.{bk}
 use Rattle.text.specs.PutLaws.{put-both}
 use Rattle.sheet.specs.Sheet.{extremesText}
 use borrow.Author.Needs.{needs}

@@ -1,7 +1,7 @@
 -- `sheet::plain` meets its contract: each thing that `script` asks for has its function.
 use mathlib.Core.Path.{_≡_}
 use mir.Syntax.{w32}
-use Rattle.integers.specs.Int.{bk}
+use Rattle.integers.specs.IntLaws.{bk}
 use Rattle.text.specs.PutLaws.{put-none}
 use Rattle.sheet.specs.Sheet.{afterPlain, plainText}
 use borrow.Author.Needs.{needs}

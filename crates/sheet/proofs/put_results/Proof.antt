@@ -6,7 +6,7 @@ use lib.IntN.{pos}
 use lib.ListN.{length, length-append}
 use mir.Syntax.{w32}
 use native.Mathlib.Omega.{arith}
-use Rattle.integers.specs.Int.{bk}
+use Rattle.integers.specs.IntLaws.{bk}
 use Rattle.decimal.specs.Decimal.{textOf}
 use Rattle.lines.specs.LineLaws.{field-at-most-20}
 use Rattle.text.specs.Marks.{space, newline, number}

@@ -5,7 +5,7 @@ use native.Mathlib.Omega.{arith}
 use lib.IntN.{pos}
 use lib.ListN.{length, getD, take}
 use mir.Syntax.{w32}
-use Rattle.integers.specs.Int.{back-at}
+use Rattle.integers.specs.IntLaws.{back-at}
 use Rattle.integers.specs.TwosComplement.{bitsOf}
 use lib.Seq.{take-all, length-take-le}
 use Rattle.text.specs.Put.{Put}
