@@ -13,7 +13,7 @@ use Rattle.decimal.specs.DigitLaws.{both-true}
 use Rattle.text.specs.Words.{trimmedOf, wordsOf, othersOf}
 use Rattle.text.specs.Hex.{isHex, hexOf}
 use Rattle.script.specs.Commands.{mostBytes, allPairs, isFrame, pairsOf, frameIn, frameOf, packed}
-use Rattle.text.specs.Reading.{wordOf, restOf}
+use Rattle.text.specs.WordSteps.{wordOf, restOf}
 use Rattle.text.specs.WordLaws.{no-word, some-word}
 use Rattle.script.specs.declared.frames.Bytes.{Bytes}
 

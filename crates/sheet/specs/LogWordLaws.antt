@@ -18,7 +18,7 @@ use Rattle.integers.specs.TwosComplement.{bitsOf}
 use Rattle.text.specs.Hex.{isHex, hexOf}
 use Rattle.text.specs.Put.{Put}
 use Rattle.text.specs.PutLaws.{put-start, put-none, put-both, put-front, put-length}
-use Rattle.text.specs.Reading.{wordOf, restOf}
+use Rattle.text.specs.WordSteps.{wordOf, restOf}
 use Rattle.text.specs.WordLaws.{no-word, some-word}
 use Rattle.text.specs.Words.{wordsOf}
 use Rattle.sheet.specs.LogWords.{leastFirst, bytesOf, mostWords, allWords, isLog, logOf}

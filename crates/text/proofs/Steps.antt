@@ -12,7 +12,7 @@ use borrow.Author.Tests.{eq-eqb, ne-eqb, lt-ltb}
 use Rattle.decimal.specs.Decimal.{sameText}
 use Rattle.text.specs.Marks.{space}
 use Rattle.text.specs.Words.{trimmedOf}
-use Rattle.text.specs.Reading.{unspacedOf, wordLength}
+use Rattle.text.specs.WordSteps.{unspacedOf, wordLength}
 use Rattle.text.specs.Hex.{hexDigit, allHex, hexFrom}
 use Rattle.text.specs.HexLaws.{digit-most}
 

@@ -3,7 +3,7 @@ pub mod Marks
 pub mod Put
 pub mod PutLaws
 pub mod Words
-pub mod Reading
+pub mod WordSteps
 pub mod WordLaws
 pub mod Plain
 pub mod PlainLaws

@@ -9,7 +9,7 @@ use lib.ListN.{length, take, drop, length-drop}
 use lib.Seq.{drop-drop, length-take-le, take-all}
 use Rattle.text.specs.Marks.{space}
 use Rattle.text.specs.Words.{onto, partsOf, filled, wordsOf, onlyOf, firstOf, othersOf}
-use Rattle.text.specs.Reading.{unspacedOf, wordLength, wordOf, restOf}
+use Rattle.text.specs.WordSteps.{unspacedOf, wordLength, wordOf, restOf}
 
 -- ---- spaces in front do not matter
 pub unspaced-words : (s : List ℕ) → wordsOf (unspacedOf s) ≡ wordsOf s

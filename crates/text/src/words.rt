@@ -2,7 +2,7 @@
 ghost use mathlib.Core.Path.{_≡_};
 ghost use Rattle.decimal.specs.Decimal.{sameText};
 ghost use Rattle.text.specs.Words.{wordsOf, trimmedOf, onlyOf};
-ghost use Rattle.text.specs.Reading.{unspacedOf, wordLength, wordOf, restOf};
+ghost use Rattle.text.specs.WordSteps.{unspacedOf, wordLength, wordOf, restOf};
 
 // The text from its first byte on that is no space.
 fn unspaced(s: &[u8]) -> &[u8]

@@ -1,5 +1,5 @@
 -- `text::words::rest` meets its contract: the part from the end of the first word on.
-use Rattle.text.specs.Reading.{restOf}
+use Rattle.text.specs.WordSteps.{restOf}
 use Rattle.text.specs.WordLaws.{part-all}
 use Rattle.text.specs.WordLaws.{word-within}
 use borrow.Author.Needs.{needs}

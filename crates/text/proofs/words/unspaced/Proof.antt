@@ -3,7 +3,7 @@ use mathlib.Core.Path.{_≡_, refl, sym, _∙_}
 use native.Mathlib.Omega.{arith}
 use lib.ListN.{length, length-drop}
 use borrow.Author.Needs.{needs}
-use Rattle.text.specs.Reading.{unspacedOf}
+use Rattle.text.specs.WordSteps.{unspacedOf}
 use Rattle.text.specs.WordLaws.{part-all}
 use Rattle.text.proofs.Steps.{unspaced-next, unspaced-stop, unspaced-end}
 use Rattle.text.proofs.words.unspaced.Statement.{statement}

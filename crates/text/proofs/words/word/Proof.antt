@@ -1,7 +1,7 @@
 -- `text::words::word` meets its contract: the part up to the first space, behind the spaces in front.
 use mathlib.Core.Path.{sym}
 use lib.Seq.{length-take-le}
-use Rattle.text.specs.Reading.{wordOf}
+use Rattle.text.specs.WordSteps.{wordOf}
 use Rattle.text.specs.WordLaws.{word-within}
 use borrow.Author.Needs.{needs}
 use Rattle.text.proofs.words.word.Statement.{statement}

@@ -3,7 +3,7 @@ use mathlib.Core.Path.{_≡_}
 use Prim.Native.Nat.{_+_, _-_, _≤_}
 use native.Mathlib.Omega.{arith}
 use lib.ListN.{length, drop}
-use Rattle.text.specs.Reading.{wordLength}
+use Rattle.text.specs.WordSteps.{wordLength}
 use Rattle.text.proofs.Steps.{length-next, length-stop, length-end}
 use Rattle.text.proofs.words.word_length.Statement.{statement}
 use Rattle.text.proofs.words.word_length.Tie as tie
