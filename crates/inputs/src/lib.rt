@@ -2,7 +2,6 @@
 // The table is changed in place. Uses `settings` for what the inputs do, `parameters` to store, `state` for the state, and `switching` for the locks.
 use settings::Action;
 use settings::Config;
-use settings::Input;
 use state::Extremes;
 use state::Live;
 use state::Outcome;
@@ -10,7 +9,7 @@ ghost use mathlib.Core.Path.{_≡_};
 ghost use Prim.Native.Nat.{_<_, _≤_};
 ghost use Rattle.integers.specs.Limit.{Z};
 ghost use Rattle.parameters.specs.Valid.{Valid};
-ghost use Rattle.settings.specs.Settings.{Aimed};
+ghost use Rattle.settings.specs.Settings.{Aimed, inputAt};
 ghost use Rattle.state.specs.State.{stateOf};
 ghost use Rattle.state.specs.Valid.{Good};
 ghost use Rattle.inputs.specs.Commands.{leftBy, resetRefusal, resetOf, locksCleared, extremesAt, extremesCleared, teachRefusal, teachOf, refusalOf, carriedOut, commandOf};
@@ -180,9 +179,11 @@ fn edge(t: &[i32; 104], was: u8, levels: u8, i: usize) -> bool
     requires { ⌜ i < 3 ⌝ }
     ensures { λ r. ⌜ r ≡ edgeIn (now (t .entry)) was levels i ⌝ }
 {
-    let n = settings::input_at(t, i);
-    let c = n.config;
-    acts_on(c, high_at(was, i), high_at(levels, i))
+    acts_on(
+        settings::config_at(t, i),
+        high_at(was, i),
+        high_at(levels, i),
+    )
 }
 
 // The note of the lowest refused input.
@@ -201,8 +202,7 @@ fn input(t: &mut [i32; 104], x: Outcome, i: usize) -> Outcome
     ensures { λ r. ⌜ leftBy (now (t .exit)) r ≡ inputActs i (leftBy (now (t .entry)) x) ⌝ }
 {
     let l = x.live;
-    let n = settings::input_at(t, i);
-    let a = n.action;
+    let a = settings::action_at(t, i);
     let y = command(a, t, l);
     let note = first_note(x.note, y.note);
     let next = y.live;
@@ -255,20 +255,26 @@ fn lasts_at(c: Config, high: bool) -> bool
     }
 }
 
-// Whether an input at a level holds the shown value.
-fn holds(n: Input, high: bool) -> bool
-    ensures { λ r. ⌜ r ≡ freezes n high ⌝ }
+// Whether input i + 1 holds the shown value.
+fn holds(t: &[i32; 104], levels: u8, i: usize) -> bool
+    requires { ⌜ i < 3 ⌝ }
+    ensures { λ r. ⌜ r ≡ freezes (inputAt (now (t .entry)) i) (highAt levels i) ⌝ }
 {
-    let a = n.action;
-    let c = n.config;
-    is_freeze(a) & lasts_at(c, high)
+    if is_freeze(settings::action_at(t, i)) {
+        return lasts_at(settings::config_at(t, i), high_at(levels, i));
+    }
+    false
 }
 
 // Whether any input holds the shown value.
 pub fn is_frozen(t: &[i32; 104], levels: u8) -> bool
     ensures { λ r. ⌜ r ≡ frozen (now (t .entry)) levels ⌝ }
 {
-    holds(settings::input_at(t, 0), high_at(levels, 0))
-        | (holds(settings::input_at(t, 1), high_at(levels, 1))
-            | holds(settings::input_at(t, 2), high_at(levels, 2)))
+    if holds(t, levels, 0) {
+        return true;
+    }
+    if holds(t, levels, 1) {
+        return true;
+    }
+    holds(t, levels, 2)
 }

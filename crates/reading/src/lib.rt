@@ -2,11 +2,13 @@
 // Uses `settings` for the table, and `ssi`, `measurement` and `analog`, which it hands the settings to.
 ghost use mathlib.Core.Path.{_≡_};
 ghost use Rattle.parameters.specs.Valid.{Valid};
+ghost use Rattle.settings.specs.Settings.{layoutOf};
 ghost use Rattle.reading.specs.Reading.{acceptsOf, directedAt, basisOf, measuredAt, codeAt, driveAt, readingOf};
 use analog::Drive;
 use measurement::Error;
 use measurement::Measured;
 use settings::Span;
+use ssi::Layout;
 
 // What a result starts from.
 pub struct Basis {
@@ -36,14 +38,12 @@ pub fn accepts(t: &[i32; 104], telegram: u32) -> bool
 }
 
 // The position of a telegram after direction.
-fn directed(t: &[i32; 104], telegram: u32) -> u32
-    requires { ⌜ Valid (now t) ⌝ }
+fn directed(t: &[i32; 104], l: Layout, telegram: u32) -> u32
+    requires { ⌜ Valid (now t) × (l ≡ layoutOf (now t)) ⌝ }
     ensures { λ r. ⌜ r ≡ directedAt (now (t .entry)) telegram ⌝ }
 {
-    let l = settings::layout(t);
     let p = ssi::position(l, telegram);
-    let s = settings::scaling(t);
-    measurement::directed(s.direction, ssi::width(l), p)
+    measurement::directed(settings::direction(t), ssi::width(l), p)
 }
 
 // What a telegram's result starts from.
@@ -51,9 +51,10 @@ pub fn basis_of(t: &[i32; 104], telegram: u32) -> Basis
     requires { ⌜ Valid (now t) ⌝ }
     ensures { λ r. ⌜ r ≡ basisOf (now (t .entry)) telegram ⌝ }
 {
+    let l = settings::layout(t);
     Basis {
-        directed: directed(t, telegram),
-        reported: ssi::error_reported(settings::layout(t), telegram),
+        directed: directed(t, l, telegram),
+        reported: ssi::error_reported(l, telegram),
     }
 }
 

@@ -92,6 +92,13 @@ pub fn scaling(t: &[i32; 104]) -> Scaling
     }
 }
 
+// The direction alone: 1 where the encoder counts the other way.
+pub fn direction(t: &[i32; 104]) -> u32
+    ensures { λ r. ⌜ r ≡ scalingOf (now (t .entry)) .direction ⌝ }
+{
+    natural(t, slots::DIRECTION)
+}
+
 // The words of the control points.
 pub fn points(words: &[i32]) -> &[i32]
     requires { ⌜ length (now words) ≡ 104 ⌝ }
@@ -170,14 +177,18 @@ fn config_of(n: u32) -> Config
     }
 }
 
-// The settings of input i + 1.
-pub fn input_at(t: &[i32; 104], i: usize) -> Input
+// The action of input i + 1.
+pub fn action_at(t: &[i32; 104], i: usize) -> Action
     requires { ⌜ i < 3 ⌝ }
-    ensures { λ r. ⌜ r ≡ inputAt (now (t .entry)) i ⌝ }
+    ensures { λ r. ⌜ r ≡ inputAt (now (t .entry)) i .action ⌝ }
 {
-    let at = slots::INPUT_STRIDE * i;
-    Input {
-        action: action_of(natural(t, slots::ACTION + at)),
-        config: config_of(natural(t, slots::CONFIG + at)),
-    }
+    action_of(natural(t, slots::ACTION + slots::INPUT_STRIDE * i))
+}
+
+// The config of input i + 1.
+pub fn config_at(t: &[i32; 104], i: usize) -> Config
+    requires { ⌜ i < 3 ⌝ }
+    ensures { λ r. ⌜ r ≡ inputAt (now (t .entry)) i .config ⌝ }
+{
+    config_of(natural(t, slots::CONFIG + slots::INPUT_STRIDE * i))
 }

@@ -143,10 +143,15 @@ pub fn received(t: &[i32; 104], l: Live, telegram: u32) -> Live
     requires { ⌜ Valid (now t) ⌝ }
     ensures { λ r. ⌜ stateOf (now (t .entry)) r ≡ receivedOf (stateOf (now (t .entry)) l) telegram ⌝ }
 {
+    let b = reading::basis_of(t, telegram);
+    let r = reading::read(t, b);
+    let x = widened(l.extremes, r);
     let mut n = l;
     n.seen = true;
-    n.basis = reading::basis_of(t, telegram);
-    reread(t, n)
+    n.basis = b;
+    n.reading = r;
+    n.extremes = x;
+    n
 }
 
 // Another reading, with least and greatest.

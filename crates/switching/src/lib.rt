@@ -113,10 +113,12 @@ fn conditioned(p: Preselection, partner: i32, r: i32, released: bool, s: Switch)
 fn locked(p: Preselection, s: Switch) -> Switch
     ensures { λ q. ⌜ q ≡ lockedOf p s ⌝ }
 {
-    Switch {
-        locked: if p.lock == 1 { active(p, s) } else { s.locked },
-        ..s
+    let mut n = s;
+    if p.lock == 1 {
+        n.locked = active(p, s);
+        return n;
     }
+    n
 }
 
 // One switch after a telegram or levels event, with its partner's preselection and the result.
@@ -141,17 +143,19 @@ fn pulse_left(left: u32, ms: u16) -> u32
 fn ticked(ms: u16, s: Switch) -> Switch
     ensures { λ q. ⌜ q ≡ tickedOf ms s ⌝ }
 {
-    Switch {
-        pulse: pulse_left(s.pulse, ms),
-        ..s
-    }
+    let left = pulse_left(s.pulse, ms);
+    let mut n = s;
+    n.pulse = left;
+    n
 }
 
 // One switch with its lock cleared.
 fn unlocked(s: Switch) -> Switch
     ensures { λ q. ⌜ q ≡ unlockedOf s ⌝ }
 {
-    Switch { locked: false, ..s }
+    let mut n = s;
+    n.locked = false;
+    n
 }
 
 // The partner of a preselection, counted from 0.

@@ -1,18 +1,43 @@
--- `inputs::holds` meets its contract: the action is the freeze, and it lasts.
+-- `inputs::holds` meets its contract: an input set to the freeze, while it lasts.
 use borrow.Author.Needs.{needs}
 use Rattle.inputs.specs.Freeze.{freezes}
 use Rattle.inputs.proofs.holds.Statement.{statement}
 use Rattle.inputs.proofs.holds.Tie as tie
 
+action-at-requires : tie.Need-action-at-requires
+action-at-requires c κs = search needs
+
 is-freeze-requires : tie.Need-is-freeze-requires
 is-freeze-requires c κs = search needs
+
+config-at-requires : tie.Need-config-at-requires
+config-at-requires c κs = search needs
+
+high-at-requires : tie.Need-high-at-requires
+high-at-requires c κs = search needs
 
 lasts-at-requires : tie.Need-lasts-at-requires
 lasts-at-requires c κs = search needs
 
 returns : tie.Need-returns
 unfolding freezes
-returns c = rw (c .before .is-freeze .ensures, c .lasts-at .ensures)
+returns c = let b = c .before .before in
+    let test = b .before in
+    let f = test .before in
+    rw (← f .before .action-at .ensures, ← f .is-freeze .ensures, test .if1 .taken, c .lasts-at .ensures, c .before .high-at .ensures, b .config-at .ensures)
+
+returns-2 : tie.Need-returns-2
+unfolding freezes
+returns-2 c = rw (← c .before .before .action-at .ensures, ← c .before .is-freeze .ensures, c .if1 .left)
 
 pub holds-spec : {M : Type 1} → statement M
-holds-spec = tie.close (tie.spec is-freeze-requires lasts-at-requires returns)
+holds-spec =
+    tie.close
+    (tie.spec
+    action-at-requires
+    is-freeze-requires
+    config-at-requires
+    high-at-requires
+    lasts-at-requires
+    returns
+    returns-2)

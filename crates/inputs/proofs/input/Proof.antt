@@ -4,21 +4,21 @@ use Rattle.inputs.specs.CommandLaws.{input-aimed}
 use Rattle.inputs.proofs.input.Statement.{statement}
 use Rattle.inputs.proofs.input.Tie as tie
 
-input-at-requires : tie.Need-input-at-requires
-input-at-requires c κs = search needs
+action-at-requires : tie.Need-action-at-requires
+action-at-requires c κs = search needs
 
 command-requires : tie.Need-command-requires
 command-requires c κs = let b = c .before in
     let s = b .before .before .before in
-    (s .pre .0, rw (b .input-at .ensures) (input-aimed _ _))
+    (s .pre .0, rw (b .action-at .ensures) (input-aimed _ _))
 
 first-note-requires : tie.Need-first-note-requires
 first-note-requires c κs = search needs
 
 returns : tie.Need-returns
 returns c = let b = c .before .before in
-    let e = rw (b .before .before .input-at .ensures) at (b .command .ensures) in
+    let e = rw (b .before .before .action-at .ensures) at (b .command .ensures) in
     rw (c .before .first-note .ensures, ← e)
 
 pub input-spec : {M : Type 1} → statement M
-input-spec = tie.close (tie.spec input-at-requires command-requires first-note-requires returns)
+input-spec = tie.close (tie.spec action-at-requires command-requires first-note-requires returns)

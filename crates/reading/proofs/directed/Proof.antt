@@ -8,37 +8,29 @@ use Rattle.reading.specs.Reading.{directedAt}
 use Rattle.reading.proofs.directed.Statement.{statement}
 use Rattle.reading.proofs.directed.Tie as tie
 
-layout-requires : tie.Need-layout-requires
-layout-requires c κs = search needs
-
 position-requires : tie.Need-position-requires
-position-requires c κs = rw (c .layout .ensures) (layout-sound (c .before .pre))
+position-requires c κs = rw (c .pre .1) (layout-sound (c .pre .0))
 
-scaling-requires : tie.Need-scaling-requires
-scaling-requires c κs = search needs
+direction-requires : tie.Need-direction-requires
+direction-requires c κs = search needs
 
 width-requires : tie.Need-width-requires
-width-requires c κs = rw (c .before .before .layout .ensures) (layout-sound (c .before .before .before .pre))
+width-requires c κs = let s = c .before .before in
+    rw (s .pre .1) (layout-sound (s .pre .0))
 
 directed-requires : tie.Need-directed-requires
 directed-requires c κs = let b = c .before .before in
-    let s = layout-sound (b .before .before .pre) in
-    let t = b .before .before .args .t .now in
-    rw (c .width .ensures, b .position .ensures, b .before .layout .ensures)
-    (omega (arith, s .from-one, s .low-high, s .high-resolution, s .to-32), position-lt (layoutOf t) (b .before .before .args .telegram))
+    let s = layout-sound (b .before .pre .0) in
+    let a = b .before .args in
+    rw (c .width .ensures, b .position .ensures, b .before .pre .1)
+    (omega (arith, s .from-one, s .low-high, s .high-resolution, s .to-32), position-lt (layoutOf (a .t .now)) (a .telegram))
 
 returns : tie.Need-returns
 unfolding directedAt scalingOf
-returns c = let b = c .before .before .before in
-    rw (c .directed .ensures, c .before .before .scaling .ensures, c .before .width .ensures, b .position .ensures, b .before .layout .ensures)
+returns c = let b = c .before .before in
+    rw (c .directed .ensures, b .direction .ensures, c .before .width .ensures, b .before .position .ensures, b .before .before .pre .1)
 
 pub directed-spec : {M : Type 1} → statement M
 directed-spec =
     tie.close
-    (tie.spec
-    layout-requires
-    position-requires
-    scaling-requires
-    width-requires
-    directed-requires
-    returns)
+    (tie.spec position-requires direction-requires width-requires directed-requires returns)
