@@ -1,23 +1,13 @@
 -- The freeze: while it lasts, the shown value is held. Paper 01, "Events and inputs", "Freeze lasts while ..". Assumes nothing.
 use mathlib.Core.List.{List}
-use mathlib.Core.Bool.{Bool, true, false, not, _&&_, _||_}
+use mathlib.Core.Bool.{Bool, false, not, _&&_, _||_}
 use Prim.Native.Nat.{ℕ}
 use lib.IntN.{ℤ}
-use Rattle.settings.specs.declared.Action.{Action}
-use Rattle.settings.specs.declared.Action.the-variants.{None, Reset, Freeze, ClearLocks, ClearExtremes, Teach}
 use Rattle.settings.specs.declared.Config.{Config}
 use Rattle.settings.specs.declared.Config.the-variants.{Low, High, Rising, Falling}
 use Rattle.settings.specs.declared.Input.{Input}
-use Rattle.settings.specs.Settings.{inputAt}
+use Rattle.settings.specs.Settings.{isFreeze, inputAt}
 use Rattle.inputs.specs.Levels.{highAt}
-
-abbrev pub isFreeze : Action → Bool
-isFreeze None = false
-isFreeze Reset = false
-isFreeze Freeze = true
-isFreeze ClearLocks = false
-isFreeze ClearExtremes = false
-isFreeze (Teach k) = false
 
 -- "any input set to it is low (config 0) or high (config 1)"; check 8 refuses the others
 abbrev pub lasts : Config → Bool → Bool

@@ -14,7 +14,7 @@ ghost use Rattle.state.specs.State.{stateOf};
 ghost use Rattle.state.specs.Valid.{Good};
 ghost use Rattle.inputs.specs.Commands.{leftBy, resetRefusal, resetOf, locksCleared, extremesAt, extremesCleared, teachRefusal, teachOf, refusalOf, carriedOut, commandOf};
 ghost use Rattle.inputs.specs.Levels.{highAt, onRise, actsOn, edgeIn, firstNote, inputActs, commandsOf};
-ghost use Rattle.inputs.specs.Freeze.{isFreeze, lasts, freezes, frozen};
+ghost use Rattle.inputs.specs.Freeze.{lasts, freezes, frozen};
 
 // Why a reset is refused: 13 before 12, or 0.
 fn reset_refusal(seen: bool, error: u32, directed: u32) -> u8
@@ -229,20 +229,6 @@ pub fn act(t: &mut [i32; 104], l: Live, levels: u8) -> Outcome
     x
 }
 
-// Whether an action is the freeze.
-fn is_freeze(a: Action) -> bool
-    ensures { λ r. ⌜ r ≡ isFreeze a ⌝ }
-{
-    match a {
-        Action::None => false,
-        Action::Reset => false,
-        Action::Freeze => true,
-        Action::ClearLocks => false,
-        Action::ClearExtremes => false,
-        Action::Teach(_) => false,
-    }
-}
-
 // Whether a freeze with a config lasts at a level.
 fn lasts_at(c: Config, high: bool) -> bool
     ensures { λ r. ⌜ r ≡ lasts c high ⌝ }
@@ -260,7 +246,7 @@ fn holds(t: &[i32; 104], levels: u8, i: usize) -> bool
     requires { ⌜ i < 3 ⌝ }
     ensures { λ r. ⌜ r ≡ freezes (inputAt (now (t .entry)) i) (highAt levels i) ⌝ }
 {
-    if is_freeze(settings::action_at(t, i)) {
+    if settings::freezes_at(t, i) {
         return lasts_at(settings::config_at(t, i), high_at(levels, i));
     }
     false

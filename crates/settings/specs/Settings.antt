@@ -1,6 +1,6 @@
 -- A table read as settings: layout, scaling with its points, analog span, preselections and inputs, under the names of the parts' structs. Above it nothing knows a slot.
 -- Paper 01, "The parameter table". Assumes nothing.
-use mathlib.Core.Bool.{cond}
+use mathlib.Core.Bool.{Bool, true, false, cond}
 use mathlib.Core.List.{List, [], _∷_}
 use Prim.Native.Nat.{ℕ, _+_, _<_}
 use lib.Dec.{eqb}
@@ -88,6 +88,14 @@ actionNumber Freeze = 2
 actionNumber ClearLocks = 3
 actionNumber ClearExtremes = 4
 actionNumber (Teach k) = 5 + k
+
+abbrev pub isFreeze : Action → Bool
+isFreeze None = false
+isFreeze Reset = false
+isFreeze Freeze = true
+isFreeze ClearLocks = false
+isFreeze ClearExtremes = false
+isFreeze (Teach k) = false
 
 -- a teach names one of the four preselections: of every action that a table has (InputLaws, `aimed`)
 abbrev pub Aimed : Action → Type 0

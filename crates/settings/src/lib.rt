@@ -3,7 +3,7 @@
 ghost use mathlib.Core.Path.{_≡_};
 ghost use Prim.Native.Nat.{_<_};
 ghost use lib.ListN.{length};
-ghost use Rattle.settings.specs.Settings.{layoutOf, scalingOf, pointsOf, spanOf, preselectionOf, preselectionsOf, actionOf, configOf, inputAt};
+ghost use Rattle.settings.specs.Settings.{layoutOf, scalingOf, pointsOf, spanOf, preselectionOf, preselectionsOf, isFreeze, actionOf, configOf, inputAt};
 ghost use Rattle.parameters.specs.Slots.{bitsPerTurn};
 use measurement::Scaling;
 use parameters::natural;
@@ -191,4 +191,12 @@ pub fn config_at(t: &[i32; 104], i: usize) -> Config
     ensures { λ r. ⌜ r ≡ inputAt (now (t .entry)) i .config ⌝ }
 {
     config_of(natural(t, slots::CONFIG + slots::INPUT_STRIDE * i))
+}
+
+// Whether input i + 1 is set to the freeze, for every event to ask.
+pub fn freezes_at(t: &[i32; 104], i: usize) -> bool
+    requires { ⌜ i < 3 ⌝ }
+    ensures { λ r. ⌜ r ≡ isFreeze (inputAt (now (t .entry)) i .action) ⌝ }
+{
+    natural(t, slots::ACTION + slots::INPUT_STRIDE * i) == 2
 }

@@ -4,11 +4,8 @@ use Rattle.inputs.specs.Freeze.{freezes}
 use Rattle.inputs.proofs.holds.Statement.{statement}
 use Rattle.inputs.proofs.holds.Tie as tie
 
-action-at-requires : tie.Need-action-at-requires
-action-at-requires c κs = search needs
-
-is-freeze-requires : tie.Need-is-freeze-requires
-is-freeze-requires c κs = search needs
+freezes-at-requires : tie.Need-freezes-at-requires
+freezes-at-requires c κs = search needs
 
 config-at-requires : tie.Need-config-at-requires
 config-at-requires c κs = search needs
@@ -23,19 +20,17 @@ returns : tie.Need-returns
 unfolding freezes
 returns c = let b = c .before .before in
     let test = b .before in
-    let f = test .before in
-    rw (← f .before .action-at .ensures, ← f .is-freeze .ensures, test .if1 .taken, c .lasts-at .ensures, c .before .high-at .ensures, b .config-at .ensures)
+    rw (← test .before .freezes-at .ensures, test .if1 .taken, c .lasts-at .ensures, c .before .high-at .ensures, b .config-at .ensures)
 
 returns-2 : tie.Need-returns-2
 unfolding freezes
-returns-2 c = rw (← c .before .before .action-at .ensures, ← c .before .is-freeze .ensures, c .if1 .left)
+returns-2 c = rw (← c .before .freezes-at .ensures, c .if1 .left)
 
 pub holds-spec : {M : Type 1} → statement M
 holds-spec =
     tie.close
     (tie.spec
-    action-at-requires
-    is-freeze-requires
+    freezes-at-requires
     config-at-requires
     high-at-requires
     lasts-at-requires
