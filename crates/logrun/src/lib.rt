@@ -59,11 +59,11 @@ struct Printed {
 }
 
 // What feeding the log gives.
-pub struct Fed {
+struct Fed {
     // The run after it.
-    pub progress: Progress,
+    progress: Progress,
     // Where the lines end in the buffer.
-    pub end: usize,
+    end: usize,
 }
 
 // What a piece of the log gives.
@@ -277,7 +277,7 @@ fn words(t: &mut [i32; 104], c: Course, bytes: &[u8], out: &mut [u8]) -> Printed
 }
 
 // The whole words of a piece of the log, from the run so far.
-pub fn feed(p: Progress, bytes: &[u8], out: &mut [u8]) -> Fed
+fn feed(p: Progress, bytes: &[u8], out: &mut [u8]) -> Fed
     requires { ⌜ Ready p × (32 * length (now bytes) ≤ length (now out)) ⌝ }
     ensures is { λ r. ⌜ r .progress ≡ wordsFed p (wordsIn (now (bytes .entry))) ⌝ }
     ensures text { λ r. ⌜ Put (now (out .entry)) 0 (wordsText p (wordsIn (now (bytes .entry)))) (r .end) (now (out .exit)) ⌝ }

@@ -23,7 +23,7 @@ pub fn event_of(w: u64) -> Event
 }
 
 // The answer to the last of a list of events, from the answer before them.
-pub fn run_on(a: Answer, log: &[u64]) -> Answer
+fn run_on(a: Answer, log: &[u64]) -> Answer
     requires { ⌜ Good (a .state) ⌝ }
     ensures is { λ r. ⌜ r ≡ lastOf a (answersOf (a .state) (eventsIn (now (log .entry)))) ⌝ }
     ensures valid { λ r. ⌜ Good (r .state) ⌝ }
