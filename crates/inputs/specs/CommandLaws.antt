@@ -16,32 +16,13 @@ use Rattle.parameters.specs.StoreLaws.{valid-offset, valid-preselection}
 use Rattle.settings.specs.declared.Action.{Action}
 use Rattle.settings.specs.declared.Action.the-variants.{None, Reset, Freeze, ClearLocks, ClearExtremes, Teach}
 use Rattle.settings.specs.InputLaws.{aimed}
-use Rattle.settings.specs.Settings.{Aimed, inputAt}
+use Rattle.settings.specs.Settings.{isReset, isTeach, Aimed, inputAt}
 use Rattle.state.specs.declared.State.{State}
 use Rattle.state.specs.State.{withTable, errorOf}
 use Rattle.state.specs.Valid.{Good}
 use Rattle.state.specs.ValidLaws.{good-reread}
 use Rattle.inputs.specs.Commands.{Acted, acted, resetRefusal, resetOf, clearLocksOf, clearExtremesOf, teachOf, refusalOf, carriedOut, commandOf}
 use Rattle.inputs.specs.Levels.{edgeAt, inputOf, commandsOf}
-
--- ---- the actions
-
--- whether an action is a reset, and whether it is a teach
-abbrev pub isReset : Action → Bool
-isReset None = false
-isReset Reset = true
-isReset Freeze = false
-isReset ClearLocks = false
-isReset ClearExtremes = false
-isReset (Teach k) = false
-
-abbrev pub isTeach : Action → Bool
-isTeach None = false
-isTeach Reset = false
-isTeach Freeze = false
-isTeach ClearLocks = false
-isTeach ClearExtremes = false
-isTeach (Teach k) = true
 
 -- ---- the cases
 

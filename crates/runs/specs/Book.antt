@@ -6,13 +6,12 @@ use Prim.Native.Nat.{ℕ}
 use lib.Dec.{eqb, leb}
 use lib.IntN.{ℤ, pos}
 use Rattle.inputs.specs.Commands.{resetRefusal}
-use Rattle.inputs.specs.CommandLaws.{isReset}
 use Rattle.inputs.specs.Levels.{highAt, actsOn}
 use Rattle.events.specs.declared.Event.{Event}
 use Rattle.events.specs.declared.Event.the-variants.{Telegram, Levels, Tick}
 use Rattle.parameters.specs.Slots.{offset}
 use Rattle.reading.specs.Reading.{acceptsOf, directedAt}
-use Rattle.settings.specs.Settings.{layoutOf, inputAt}
+use Rattle.settings.specs.Settings.{isReset, layoutOf, inputAt}
 use Rattle.ssi.specs.Telegram.{errorReported}
 
 pub record Book : Type 0 where

@@ -19,13 +19,13 @@ use Rattle.reading.specs.AlikeLaws.{accepts-alike, basis-alike}
 use Rattle.settings.specs.declared.Action.{Action}
 use Rattle.settings.specs.declared.Action.the-variants.{None, Reset, Freeze, ClearLocks, ClearExtremes, Teach}
 use Rattle.settings.specs.AlikeLaws.{input-alike}
-use Rattle.settings.specs.Settings.{layoutOf, inputAt}
+use Rattle.settings.specs.Settings.{isReset, layoutOf, inputAt}
 use Rattle.ssi.specs.Telegram.{errorReported}
 use Rattle.state.specs.declared.State.{State}
 use Rattle.state.specs.State.{freshOf, errorOf, rereadOf, receivedOf}
 use Rattle.state.specs.Valid.{Good}
 use Rattle.inputs.specs.Commands.{Acted, acted, resetRefusal, resetOf, clearLocksOf, clearExtremesOf, teachOf, refusalOf, carriedOut, commandOf}
-use Rattle.inputs.specs.CommandLaws.{isReset, good-input}
+use Rattle.inputs.specs.CommandLaws.{good-input}
 use Rattle.inputs.specs.Levels.{edgeAt, inputOf, commandsOf}
 use Rattle.panel.specs.declared.Answer.{Answer}
 use Rattle.panel.specs.Step.{answerOf, switchedOf, displayedOf, onTelegram, onLevels, onTick, stepOf}

@@ -9,7 +9,7 @@ use lib.Dec.{T, eqb, leb}
 use lib.IntN.{ℤ, pos}
 use lib.ListN.{length}
 use Rattle.inputs.specs.Commands.{Acted, acted, resetOf, clearLocksOf, clearExtremesOf, teachOf, refusalOf, commandOf}
-use Rattle.inputs.specs.CommandLaws.{isTeach, by-command, by-input, input-aimed}
+use Rattle.inputs.specs.CommandLaws.{by-command, by-input, input-aimed}
 use Rattle.inputs.specs.Levels.{edgeAt, inputOf, commandsOf}
 use Rattle.state.specs.State.{freshOf, withLevels, withSwitches, rereadOf, receivedOf}
 use Rattle.events.specs.declared.Event.{Event}
@@ -20,7 +20,7 @@ use Rattle.parameters.specs.StoreLaws.{word-kept, offset-alike, stored-input, s
 use Rattle.reading.specs.Reading.{acceptsOf}
 use Rattle.settings.specs.declared.Action.{Action}
 use Rattle.settings.specs.AlikeLaws.{input-alike, preselections-alike}
-use Rattle.settings.specs.Settings.{Aimed, preselectionsOf, inputAt}
+use Rattle.settings.specs.Settings.{isTeach, Aimed, preselectionsOf, inputAt}
 use Rattle.switching.specs.declared.Preselection.{Preselection}
 use Rattle.switching.specs.declared.Switch.{Switch}
 use Rattle.switching.specs.EachLaws.{each-length}

@@ -8,7 +8,6 @@ use lib.Dec.{T}
 use lib.IntN.{ℤ, pos}
 use lib.ListN.{length, length-set}
 use Rattle.events.specs.declared.Event.{Event}
-use Rattle.inputs.specs.CommandLaws.{isTeach}
 use Rattle.integers.specs.Fraction.{Frac, Ratio, Accurate}
 use Rattle.measurement.specs.declared.Error.the-variants as Error
 use Rattle.measurement.specs.Curve.{steepest}
@@ -21,7 +20,7 @@ use Rattle.reading.specs.declared.Reading.{Reading}
 use Rattle.reading.specs.AlikeLaws.{directed-alike, slope-alike, curve-alike}
 use Rattle.reading.specs.Reading.{directedAt, basisOf, readingOf, curveFrom, curveAt, slopeAt}
 use Rattle.reading.specs.ReadingLaws as reading
-use Rattle.settings.specs.Settings.{preselectionOf, preselectionsOf, inputAt}
+use Rattle.settings.specs.Settings.{isTeach, preselectionOf, preselectionsOf, inputAt}
 use Rattle.settings.specs.SettingsLaws.{preselection-at}
 use Rattle.state.specs.State.{freshOf}
 use Rattle.state.specs.ValidLaws.{good-fresh}

@@ -6,10 +6,9 @@ use Prim.Native.Nat.{ℕ}
 use lib.Dec.{eqb, leb}
 use lib.IntN.{ℤ, pos}
 use Rattle.inputs.specs.Commands.{Acted, acted, refusalOf}
-use Rattle.inputs.specs.CommandLaws.{isTeach}
 use Rattle.inputs.specs.Levels.{edgeAt, inputOf}
 use Rattle.settings.specs.declared.Action.{Action}
-use Rattle.settings.specs.Settings.{inputAt}
+use Rattle.settings.specs.Settings.{isTeach, inputAt}
 use Rattle.state.specs.State.{freshOf}
 use Rattle.events.specs.declared.Event.{Event}
 use Rattle.events.specs.declared.Event.the-variants.{Telegram, Levels, Tick}

@@ -89,6 +89,15 @@ actionNumber ClearLocks = 3
 actionNumber ClearExtremes = 4
 actionNumber (Teach k) = 5 + k
 
+-- whether an action is the reset, the freeze, or a teach
+abbrev pub isReset : Action → Bool
+isReset None = false
+isReset Reset = true
+isReset Freeze = false
+isReset ClearLocks = false
+isReset ClearExtremes = false
+isReset (Teach k) = false
+
 abbrev pub isFreeze : Action → Bool
 isFreeze None = false
 isFreeze Reset = false
@@ -96,6 +105,14 @@ isFreeze Freeze = true
 isFreeze ClearLocks = false
 isFreeze ClearExtremes = false
 isFreeze (Teach k) = false
+
+abbrev pub isTeach : Action → Bool
+isTeach None = false
+isTeach Reset = false
+isTeach Freeze = false
+isTeach ClearLocks = false
+isTeach ClearExtremes = false
+isTeach (Teach k) = true
 
 -- a teach names one of the four preselections: of every action that a table has (InputLaws, `aimed`)
 abbrev pub Aimed : Action → Type 0
