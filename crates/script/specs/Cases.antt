@@ -2,10 +2,11 @@
 use mathlib.Core.Path.{_≡_, refl}
 use mathlib.Core.List.{[], _∷_}
 use lib.IntN.{negsuc}
+use Rattle.text.specs.HexList.{allHexWords, areHex, hexesOf}
 use Rattle.decimal.specs.Decimal.{digitsIn, digitsOf, textOf, valueFrom, numberIn, sameText, parsedOf}
 use Rattle.text.specs.Words.{partsOf, wordsOf, trimmedOf}
 use Rattle.text.specs.Hex.{hexDigit, allHex, isHex, hexFrom, hexLetter, spacedPairs, hexText}
-use Rattle.script.specs.Commands.{naturalIn, naturalBy, naturalOf, signedIn, signedBy, signedOf, slotOf, startOf, telegramIn, levelsOf, allPairs, isFrame, pairsOf, framedOf, namedIn, meaningOf, frameIn, frameOf, commandOf}
+use Rattle.script.specs.Commands.{naturalIn, naturalBy, naturalOf, signedIn, signedBy, signedOf, slotOf, startOf, telegramIn, levelsOf, isFrame, framedOf, namedIn, meaningOf, frameIn, frameOf, commandOf}
 use Rattle.script.specs.declared.Command.the-variants.{Blank, Wrong, Slot, Start, Telegram, Levels, Frame}
 
 -- `  t  1aF` and a carriage return
@@ -47,15 +48,15 @@ start-more = refl
 
 -- `f` alone is a frame of no bytes, `f 01 fF` one of two; `f 1` is none
 empty-frame : commandOf (102 ∷ []) ≡ Frame
-unfolding commandOf trimmedOf wordsOf partsOf meaningOf namedIn sameText framedOf isFrame allPairs
+unfolding commandOf trimmedOf wordsOf partsOf meaningOf namedIn sameText framedOf isFrame areHex allHexWords
 empty-frame = refl
 
 frame-line : frameOf (102 ∷ 32 ∷ 48 ∷ 49 ∷ 32 ∷ 102 ∷ 70 ∷ []) ≡ 1 ∷ 255 ∷ []
-unfolding frameOf frameIn trimmedOf wordsOf partsOf isFrame allPairs pairsOf isHex allHex hexFrom hexDigit
+unfolding frameOf frameIn trimmedOf wordsOf partsOf isFrame areHex allHexWords hexesOf isHex allHex hexFrom hexDigit
 frame-line = refl
 
 half-pair : commandOf (102 ∷ 32 ∷ 49 ∷ []) ≡ Wrong 9
-unfolding commandOf trimmedOf wordsOf partsOf meaningOf namedIn sameText framedOf isFrame allPairs isHex allHex hexDigit
+unfolding commandOf trimmedOf wordsOf partsOf meaningOf namedIn sameText framedOf isFrame areHex allHexWords isHex allHex hexDigit
 half-pair = refl
 
 -- a remark, spaces alone, and `T 1`, whose word is in upper case

@@ -9,56 +9,28 @@ use lib.Dec.{leb}
 use lib.ListN.{length, take, drop, set, replicate, length-set, length-replicate, replicate-append-replicate}
 use lib.Seq.{sets, sets-eq, drop-at, take-append-seam}
 use borrow.Author.Tests.{leb-true, le-leb, lt-leb}
+use Rattle.text.specs.HexList.{allHexWords, areHex, hexesOf}
+use Rattle.text.specs.HexListLaws.{hexes-length}
 use Rattle.decimal.specs.DigitLaws.{both-true}
 use Rattle.text.specs.Words.{trimmedOf, wordsOf, othersOf}
 use Rattle.text.specs.Hex.{isHex, hexOf}
-use Rattle.script.specs.Commands.{mostBytes, allPairs, isFrame, pairsOf, frameIn, frameOf, packed}
+use Rattle.script.specs.Commands.{mostBytes, isFrame, frameIn, frameOf, packed}
 use Rattle.text.specs.WordSteps.{wordOf, restOf}
 use Rattle.text.specs.WordLaws.{no-word, some-word}
 use Rattle.script.specs.declared.frames.Bytes.{Bytes}
 
--- ---- whether words are a frame, behind n words that are pairs
-unfoldable pub framesFrom : ℕ → List (List ℕ) → Bool
-framesFrom n ws = leb (n + length ws) mostBytes && allPairs ws
-
-pub frames-start : (ws : List (List ℕ)) → framesFrom 0 ws ≡ isFrame ws
-unfolding framesFrom isFrame
-frames-start ws = let e : 0 + length ws ≡ length ws = omega arith in rw e
-
-pub frames-end : (n : ℕ) (s : List ℕ) → n ≤ mostBytes → length (wordOf s) ≡ 0 → framesFrom n (wordsOf s) ≡ true
-unfolding framesFrom allPairs
-frames-end n s h e = rw (no-word s e, le-leb (n + 0) mostBytes (omega arith))
-
-and-false : (a : Bool) → a && false ≡ false
-and-false true = refl
-and-false false = refl
-
-pub frames-over : (s : List ℕ) → 0 < length (wordOf s) → framesFrom 300 (wordsOf s) ≡ false
-unfolding framesFrom
-frames-over s h = rw (some-word s h, lt-leb (300 + suc (length (wordsOf (restOf s)))) 300 (omega arith))
-
-pub frames-other : (n : ℕ) (s : List ℕ) → 0 < length (wordOf s) → isHex 2 2 (wordOf s) ≡ false → framesFrom n (wordsOf s) ≡ false
-unfolding framesFrom allPairs
-frames-other n s h e = rw (some-word s h, e, and-false)
-
-pub frames-next : (n : ℕ) (s : List ℕ) → 0 < length (wordOf s) → isHex 2 2 (wordOf s) ≡ true → framesFrom (n + 1) (wordsOf (restOf s)) ≡ framesFrom n (wordsOf s)
-unfolding framesFrom allPairs
-frames-next n s h e =
-    let m : n + 1 + length (wordsOf (restOf s)) ≡ n + suc (length (wordsOf (restOf s))) = omega arith in
-    rw (some-word s h, e, m)
-
 -- ---- the bytes, stored one by one
 pub record Left (s : List ℕ) (n : ℕ) (bytes : List ℕ) (t : List ℕ) : Type 0 where
   pub room : n + length (wordsOf t) ≤ mostBytes
-  pub pairs : allPairs (wordsOf t) ≡ true
+  pub pairs : allHexWords 2 2 (wordsOf t) ≡ true
   pub size : length bytes ≡ mostBytes
   pub count : n + length (wordsOf t) ≡ length (wordsOf s)
-  pub stored : sets bytes n (pairsOf (wordsOf t)) ≡ sets (replicate mostBytes 0) 0 (pairsOf (wordsOf s))
+  pub stored : sets bytes n (hexesOf (wordsOf t)) ≡ sets (replicate mostBytes 0) 0 (hexesOf (wordsOf s))
 
 pub left-all : (s : List ℕ) → isFrame (wordsOf s) ≡ true → Left s 0 (replicate mostBytes 0) s
-unfolding isFrame
+unfolding isFrame areHex
 left-all s e =
-    let p = both-true (leb (length (wordsOf s)) mostBytes) (allPairs (wordsOf s)) e in
+    let p = both-true (leb (length (wordsOf s)) mostBytes) (allHexWords 2 2 (wordsOf s)) e in
     record {
       room = omega (arith, leb-true (length (wordsOf s)) mostBytes (p .0));
       pairs = p .1;
@@ -68,29 +40,24 @@ left-all s e =
     }
 
 pub left-pair : (s : List ℕ) (n : ℕ) (bytes : List ℕ) (t : List ℕ) → Left s n bytes t → 0 < length (wordOf t) → isHex 2 2 (wordOf t) ≡ true
-unfolding allPairs
-left-pair s n bytes t l h = both-true (isHex 2 2 (wordOf t)) (allPairs (wordsOf (restOf t))) (rw (some-word t h) at (l .pairs)) .0
+unfolding allHexWords
+left-pair s n bytes t l h = both-true (isHex 2 2 (wordOf t)) (allHexWords 2 2 (wordsOf (restOf t))) (rw (some-word t h) at (l .pairs)) .0
 
 pub left-room : (s : List ℕ) (n : ℕ) (bytes : List ℕ) (t : List ℕ) → Left s n bytes t → 0 < length (wordOf t) → n < mostBytes
 left-room s n bytes t l h = omega (arith, rw (some-word t h) at (l .room))
 
 pub left-next : (s : List ℕ) (n : ℕ) (bytes : List ℕ) (t : List ℕ) → Left s n bytes t → 0 < length (wordOf t)
     → Left s (n + 1) (set bytes n (hexOf (wordOf t))) (restOf t)
-unfolding allPairs pairsOf
+unfolding allHexWords hexesOf
 left-next s n bytes t l h =
     let w = some-word t h in
     record {
       room = omega (arith, rw w at (l .room));
-      pairs = both-true (isHex 2 2 (wordOf t)) (allPairs (wordsOf (restOf t))) (rw w at (l .pairs)) .1;
+      pairs = both-true (isHex 2 2 (wordOf t)) (allHexWords 2 2 (wordsOf (restOf t))) (rw w at (l .pairs)) .1;
       size = rw length-set (l .size);
       count = omega (arith, rw w at (l .count));
       stored = rw add-one (rw w at (l .stored));
     }
-
-pairs-length : (ws : List (List ℕ)) → length (pairsOf ws) ≡ length ws
-unfolding pairsOf
-pairs-length [] = refl
-pairs-length (w ∷ ws) = ap suc (pairs-length ws)
 
 drop-replicate : (k n : ℕ) → k ≤ n → drop {A = ℕ} k (replicate n 0) ≡ replicate (n - k) 0
 drop-replicate k n h =
@@ -106,29 +73,29 @@ stored-zeros m l h =
 
 -- all stored: the bytes at the start of the buffer, and zeros behind them
 pub left-none : (s : List ℕ) (n : ℕ) (bytes : List ℕ) (t : List ℕ) → Left s n bytes t → length (wordOf t) ≡ 0
-    → _≡_ {A = Bytes} (record { bytes = bytes; length = n }) (packed (pairsOf (wordsOf s)))
-unfolding packed pairsOf
+    → _≡_ {A = Bytes} (record { bytes = bytes; length = n }) (packed (hexesOf (wordsOf s)))
+unfolding packed hexesOf
 left-none s n bytes t l e =
     let z = no-word t e in
-    let p = pairs-length (wordsOf s) in
-    let c : n ≡ length (pairsOf (wordsOf s)) = omega (arith, rw z at (l .count)) in
-    let r : length (pairsOf (wordsOf s)) ≤ mostBytes = omega (arith, l .room) in
-    let b : bytes ≡ pairsOf (wordsOf s) ++ replicate (mostBytes - length (pairsOf (wordsOf s))) 0 =
-    (rw z at (l .stored)) ∙ stored-zeros mostBytes (pairsOf (wordsOf s)) r in
+    let p = hexes-length (wordsOf s) in
+    let c : n ≡ length (hexesOf (wordsOf s)) = omega (arith, rw z at (l .count)) in
+    let r : length (hexesOf (wordsOf s)) ≤ mostBytes = omega (arith, l .room) in
+    let b : bytes ≡ hexesOf (wordsOf s) ++ replicate (mostBytes - length (hexesOf (wordsOf s))) 0 =
+    (rw z at (l .stored)) ∙ stored-zeros mostBytes (hexesOf (wordsOf s)) r in
     rw (b, c)
 
 -- ---- what a caller finds in `packed`
 -- A FRAME HAS AT MOST 300 BYTES
 pub frame-fits : (line : List ℕ) → length (frameOf line) ≤ mostBytes
-unfolding frameOf frameIn isFrame
+unfolding frameOf frameIn isFrame areHex
 frame-fits line = by (othersOf (wordsOf (trimmedOf line)))
   where
-    tested : (ws : List (List ℕ)) (t : Bool) → leb (length ws) mostBytes && allPairs ws ≡ t → length (cond t (pairsOf ws) []) ≤ mostBytes
-    tested ws true e = omega (arith, pairs-length ws, leb-true (length ws) mostBytes (both-true (leb (length ws) mostBytes) (allPairs ws) e .0))
+    tested : (ws : List (List ℕ)) (t : Bool) → leb (length ws) mostBytes && allHexWords 2 2 ws ≡ t → length (cond t (hexesOf ws) []) ≤ mostBytes
+    tested ws true e = omega (arith, hexes-length ws, leb-true (length ws) mostBytes (both-true (leb (length ws) mostBytes) (allHexWords 2 2 ws) e .0))
     tested ws false e = omega arith
 
-    by : (ws : List (List ℕ)) → length (cond (leb (length ws) mostBytes && allPairs ws) (pairsOf ws) []) ≤ mostBytes
-    by ws = tested ws (leb (length ws) mostBytes && allPairs ws) refl
+    by : (ws : List (List ℕ)) → length (cond (leb (length ws) mostBytes && allHexWords 2 2 ws) (hexesOf ws) []) ≤ mostBytes
+    by ws = tested ws (leb (length ws) mostBytes && allHexWords 2 2 ws) refl
 
 pub packed-length : (l : List ℕ) → packed l .length ≡ length l
 unfolding packed

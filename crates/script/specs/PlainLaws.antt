@@ -8,6 +8,7 @@ use lib.Dec.{ltb}
 use lib.IntN.{ℤ, pos}
 use lib.ListN.{length, getD, length-append}
 use borrow.Author.Tests.{ltb-true, le-ltb, ne-eqb, le-leb}
+use Rattle.text.specs.HexList.{allHexWords, areHex, hexesOf}
 use Rattle.integers.specs.Int.{P, N, Within}
 use Rattle.decimal.specs.Decimal.{largest, textOf, sameText}
 use Rattle.decimal.specs.DigitLaws.{both-true}
@@ -17,7 +18,7 @@ use Rattle.text.specs.PlainLaws.{words-back, trimmed-same, text-plain}
 use Rattle.text.specs.Hex.{hexIn, pairWords, allBytes}
 use Rattle.text.specs.HexLaws.{hex-is, spaced-length}
 use Rattle.text.specs.HexBackLaws.{hexin-length, hexin-hex, hexin-word, hexin-back, pair-back, pair-hex, pairs-count, pair-words, pair-text}
-use Rattle.script.specs.Commands.{naturalBy, naturalIn, naturalOf, signedBy, signedOf, nodeOf, slotOf, startOf, telegramIn, levelsOf, tickOf, framedOf, mostBytes, allPairs, isFrame, pairsOf, frameIn, frameOf, namedIn, namedOf, meaningOf, longest, hash, commandOf, nodeWord, slotWord, startWord, telegramWord, levelsWord, tickWord, frameWord}
+use Rattle.script.specs.Commands.{naturalBy, naturalIn, naturalOf, signedBy, signedOf, nodeOf, slotOf, startOf, telegramIn, levelsOf, tickOf, framedOf, mostBytes, isFrame, frameIn, frameOf, namedIn, namedOf, meaningOf, longest, hash, commandOf, nodeWord, slotWord, startWord, telegramWord, levelsWord, tickWord, frameWord}
 use Rattle.script.specs.NumberLaws.{signed-word}
 use Rattle.script.specs.declared.Command.the-variants.{Node, Slot, Start, Telegram, Levels, Tick, Frame}
 
@@ -94,22 +95,22 @@ unfolding namedIn sameText startOf allPlain spoken
 start-back = plain-means startWord [] (last (record { some = omega arith; all = refl })) (λ q. omega arith) (omega arith)
 
 -- ---- frames
-pairs-all : (l : List ℕ) → allBytes l ≡ true → allPairs (pairWords l) ≡ true
-unfolding allBytes pairWords allPairs
+pairs-all : (l : List ℕ) → allBytes l ≡ true → allHexWords 2 2 (pairWords l) ≡ true
+unfolding allBytes pairWords allHexWords
 pairs-all [] e = refl
 pairs-all (b ∷ l) e =
     let q = both-true (ltb b 256) (allBytes l) e in
     rw (pair-hex b (ltb-true b 256 (q .0)), pairs-all l (q .1))
 
-pairs-values : (l : List ℕ) → allBytes l ≡ true → pairsOf (pairWords l) ≡ l
-unfolding allBytes pairWords pairsOf
+pairs-values : (l : List ℕ) → allBytes l ≡ true → hexesOf (pairWords l) ≡ l
+unfolding allBytes pairWords hexesOf
 pairs-values [] e = refl
 pairs-values (b ∷ l) e =
     let q = both-true (ltb b 256) (allBytes l) e in
     rw (pair-back b (ltb-true b 256 (q .0)), pairs-values l (q .1))
 
 frame-is : (l : List ℕ) → length l ≤ mostBytes → allBytes l ≡ true → isFrame (pairWords l) ≡ true
-unfolding isFrame
+unfolding isFrame areHex
 frame-is l h e = rw (pairs-count l, le-leb (length l) mostBytes h, pairs-all l e)
 
 frame-length : (l : List ℕ) → length l ≤ mostBytes → length (spoken (frameWord ∷ pairWords l)) ≤ longest

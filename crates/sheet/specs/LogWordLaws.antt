@@ -10,6 +10,8 @@ use lib.ListN.{length, getD, take, drop-of-length-le, length-map}
 use lib.Seq.{take-suc, length-take-le}
 use native.Mathlib.Numerals.{add-one}
 use borrow.Author.Tests.{leb-true, le-leb, lt-leb}
+use Rattle.text.specs.HexList.{allHexWords, areHex, hexesOf}
+use Rattle.text.specs.HexListLaws.{hexes-length}
 use Rattle.decimal.specs.DigitLaws.{both-true}
 use Rattle.events.specs.Bytes.{wordsIn}
 use Rattle.events.specs.Words.{wordAt}
@@ -21,7 +23,7 @@ use Rattle.text.specs.PutLaws.{put-start, put-none, put-both, put-front, put-le
 use Rattle.text.specs.WordSteps.{wordOf, restOf}
 use Rattle.text.specs.WordLaws.{no-word, some-word}
 use Rattle.text.specs.Words.{wordsOf}
-use Rattle.sheet.specs.LogWords.{leastFirst, bytesOf, mostWords, allWords, isLog, logOf}
+use Rattle.sheet.specs.LogWords.{leastFirst, bytesOf, mostWords, isLog}
 
 -- ---- THE BYTES OF WORDS ARE READ AS THESE WORDS
 word-bytes : (w : ℕ) → w < 2 ^ 32 → wordAt (w % 256) (w / 256 % 256) (w / 65536 % 256) (w / 16777216) ≡ w
@@ -31,36 +33,6 @@ pub bytes-words : (ws : List ℕ) → AllWords ws → wordsIn (bytesOf ws) ≡ w
 unfolding wordsIn bytesOf
 bytes-words [] a = refl
 bytes-words (w ∷ ws) a = rw (word-bytes w (a .0), bytes-words ws (a .1))
-
--- ---- whether words are a log, behind n words that are
-unfoldable pub logFrom : ℕ → List (List ℕ) → Bool
-logFrom n ws = leb (n + length ws) mostWords && allWords ws
-
-pub log-start : (ws : List (List ℕ)) → logFrom 0 ws ≡ isLog ws
-unfolding logFrom isLog
-log-start ws = let e : 0 + length ws ≡ length ws = omega arith in rw e
-
-pub log-end : (n : ℕ) (s : List ℕ) → n ≤ mostWords → length (wordOf s) ≡ 0 → logFrom n (wordsOf s) ≡ true
-unfolding logFrom allWords
-log-end n s h e = rw (no-word s e, le-leb (n + 0) mostWords (omega arith))
-
-and-false : (a : Bool) → a && false ≡ false
-and-false true = refl
-and-false false = refl
-
-pub log-over : (s : List ℕ) → 0 < length (wordOf s) → logFrom 100 (wordsOf s) ≡ false
-unfolding logFrom
-log-over s h = rw (some-word s h, lt-leb (100 + suc (length (wordsOf (restOf s)))) 100 (omega arith))
-
-pub log-other : (n : ℕ) (s : List ℕ) → 0 < length (wordOf s) → isHex 1 8 (wordOf s) ≡ false → logFrom n (wordsOf s) ≡ false
-unfolding logFrom allWords
-log-other n s h e = rw (some-word s h, e, and-false)
-
-pub log-next : (n : ℕ) (s : List ℕ) → 0 < length (wordOf s) → isHex 1 8 (wordOf s) ≡ true → logFrom (n + 1) (wordsOf (restOf s)) ≡ logFrom n (wordsOf s)
-unfolding logFrom allWords
-log-next n s h e =
-    let m : n + 1 + length (wordsOf (restOf s)) ≡ n + suc (length (wordsOf (restOf s))) = omega arith in
-    rw (some-word s h, e, m)
 
 -- ---- the bytes, put one word after the other
 bytes-length : (ws : List ℕ) → length (bytesOf ws) ≡ 4 * length ws
@@ -88,44 +60,39 @@ pub table-whole : {buffer after : List ℕ} {end : ℕ} (t : List ℤ) → lengt
 table-whole {buffer} {after} {end} t n m p = put-start p ∙ rw (drop-of-length-le buffer {i = end} (omega (arith, p .ends, table-length t)), append-nil)
 
 -- a log has at most 400 bytes
-words-length : (ws : List (List ℕ)) → length (logOf ws) ≡ length ws
-unfolding logOf
-words-length [] = refl
-words-length (w ∷ ws) = ap suc (words-length ws)
-
-pub log-fits : (ws : List (List ℕ)) → isLog ws ≡ true → length (bytesOf (logOf ws)) ≤ 400
-unfolding isLog
-log-fits ws e = omega (arith, bytes-length (logOf ws), words-length ws, leb-true (length ws) mostWords (both-true (leb (length ws) mostWords) (allWords ws) e .0))
+pub log-fits : (ws : List (List ℕ)) → isLog ws ≡ true → length (bytesOf (hexesOf ws)) ≤ 400
+unfolding isLog areHex
+log-fits ws e = omega (arith, bytes-length (hexesOf ws), hexes-length ws, leb-true (length ws) mostWords (both-true (leb (length ws) mostWords) (allHexWords 1 8 ws) e .0))
 
 -- a log's words: those that are put, and those that are left of the text
 pub record Left (s : List ℕ) (out₀ out : List ℕ) (p : ℕ) (t : List ℕ) : Type 0 where
   pub space : p + 4 * length (wordsOf t) ≤ 400
-  pub words : allWords (wordsOf t) ≡ true
+  pub words : allHexWords 1 8 (wordsOf t) ≡ true
   pub size : length out ≡ length out₀
   pub text : Put out₀ 0 (take p out) p out
-  pub joined : take p out ++ bytesOf (logOf (wordsOf t)) ≡ bytesOf (logOf (wordsOf s))
+  pub joined : take p out ++ bytesOf (hexesOf (wordsOf t)) ≡ bytesOf (hexesOf (wordsOf s))
 
 pub left-all : (s out : List ℕ) → isLog (wordsOf s) ≡ true → Left s out out 0 s
-unfolding isLog
+unfolding isLog areHex
 left-all s out e =
-    let b = both-true (leb (length (wordsOf s)) mostWords) (allWords (wordsOf s)) e in
+    let b = both-true (leb (length (wordsOf s)) mostWords) (allHexWords 1 8 (wordsOf s)) e in
     record { space = omega (arith, leb-true (length (wordsOf s)) mostWords (b .0)); words = b .1; size = refl; text = put-none out 0; joined = refl }
 
 module _ (s out₀ out : List ℕ) (p : ℕ) (t : List ℕ) (l : Left s out₀ out p t) (roomy : 400 ≤ length out₀) where
-  pub left-none : length (wordOf t) ≡ 0 → Put out₀ 0 (bytesOf (logOf (wordsOf s))) p out
-  unfolding logOf bytesOf
+  pub left-none : length (wordOf t) ≡ 0 → Put out₀ 0 (bytesOf (hexesOf (wordsOf s))) p out
+  unfolding hexesOf bytesOf
   left-none e = rw (← (rw (no-word t e, append-nil) at (l .joined))) (l .text)
 
   module _ (h : 0 < length (wordOf t)) where
     pub left-hex : isHex 1 8 (wordOf t) ≡ true
-    unfolding allWords
-    left-hex = both-true (isHex 1 8 (wordOf t)) (allWords (wordsOf (restOf t))) (rw (some-word t h) at (l .words)) .0
+    unfolding allHexWords
+    left-hex = both-true (isHex 1 8 (wordOf t)) (allHexWords 1 8 (wordsOf (restOf t))) (rw (some-word t h) at (l .words)) .0
 
     pub left-room : p + 4 ≤ length out
     left-room = omega (arith, l .size, rw (some-word t h) at (l .space))
 
     pub left-next : {end : ℕ} {after : List ℕ} → Put out p (leastFirst (hexOf (wordOf t))) end after → Left s out₀ after end (restOf t)
-    unfolding allWords logOf bytesOf
+    unfolding allHexWords hexesOf bytesOf
     left-next {end} {after} put =
         let w = some-word t h in
         let room = left-room in
@@ -133,7 +100,7 @@ module _ (s out₀ out : List ℕ) (p : ℕ) (t : List ℕ) (l : Left s out₀ o
         let fits : 0 + length (take p out) ≤ length out₀ = omega (arith, l .size, length-take-le p out (omega arith)) in
         record {
           space = omega (arith, put .ends, rw w at (l .space));
-          words = both-true (isHex 1 8 (wordOf t)) (allWords (wordsOf (restOf t))) (rw w at (l .words)) .1;
+          words = both-true (isHex 1 8 (wordOf t)) (allHexWords 1 8 (wordsOf (restOf t))) (rw w at (l .words)) .1;
           size = put-length put room ∙ l .size;
           text = rw front (put-both (l .text) put fits);
           joined = rw (front, append-assoc) (rw w at (l .joined));

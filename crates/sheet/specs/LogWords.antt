@@ -5,7 +5,7 @@ use mathlib.Core.List.{List, [], _∷_, _++_}
 use Prim.Native.Nat.{ℕ, _/_, _%_}
 use lib.Dec.{leb}
 use lib.ListN.{length}
-use Rattle.text.specs.Hex.{isHex, hexOf}
+use Rattle.text.specs.HexList.{areHex}
 
 -- a word as bytes
 abbrev pub leastFirst : ℕ → List ℕ
@@ -19,15 +19,6 @@ bytesOf (w ∷ ws) = leastFirst w ++ bytesOf ws
 abbrev pub mostWords : ℕ
 mostWords = 100
 
-unfoldable pub allWords : List (List ℕ) → Bool
-allWords [] = true
-allWords (w ∷ ws) = isHex 1 8 w && allWords ws
-
 -- 0 to 100 words of 1 to 8 hex digits
 unfoldable pub isLog : List (List ℕ) → Bool
-isLog ws = leb (length ws) mostWords && allWords ws
-
--- what they stand for
-unfoldable pub logOf : List (List ℕ) → List ℕ
-logOf [] = []
-logOf (w ∷ ws) = hexOf w ∷ logOf ws
+isLog ws = areHex mostWords 1 8 ws

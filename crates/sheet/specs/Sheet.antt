@@ -8,6 +8,7 @@ use lib.Dec.{eqb, ltb}
 use lib.IntN.{ℤ}
 use lib.ListN.{length, take}
 use mir.Val.{boolByte}
+use Rattle.text.specs.HexList.{hexesOf}
 use Rattle.state.specs.declared.Extremes.{Extremes as LeastAndGreatest}
 use Rattle.state.specs.State.{freshOf}
 use Rattle.decimal.specs.Decimal.{textOf}
@@ -44,7 +45,7 @@ use Rattle.sheet.specs.declared.orders.Question.the-variants.{Build, Fau
 use Rattle.sheet.specs.declared.orders.Word.{Word}
 use Rattle.sheet.specs.declared.orders.Word.the-variants.{Plain, Heading, Log, End, Cut, Extremes, Asked}
 use Rattle.sheet.specs.declared.Sheet.{Sheet}
-use Rattle.sheet.specs.LogWords.{bytesOf, isLog, logOf}
+use Rattle.sheet.specs.LogWords.{bytesOf, isLog}
 use Rattle.sheet.specs.Orders.{buildWord, readWord, diagnoseWord, extremesWord, wordNamed}
 
 -- ---- what is kept
@@ -98,10 +99,10 @@ abbrev pub wordsBehind : List ℕ → List (List ℕ)
 wordsBehind line = othersOf (wordsOf line)
 
 unfoldable pub afterLog : Sheet → List ℕ → Sheet
-afterLog s line = cond (isLog (wordsBehind line)) (afterPiece 0 s (bytesOf (logOf (wordsBehind line)))) s
+afterLog s line = cond (isLog (wordsBehind line)) (afterPiece 0 s (bytesOf (hexesOf (wordsBehind line)))) s
 
 unfoldable pub logText : Sheet → List ℕ → List ℕ
-logText s line = cond (isLog (wordsBehind line)) (pieceOf 0 s (bytesOf (logOf (wordsBehind line)))) wrongLine
+logText s line = cond (isLog (wordsBehind line)) (pieceOf 0 s (bytesOf (hexesOf (wordsBehind line)))) wrongLine
 
 -- `end HH HH ..`: the last piece, which is not full: at most 300 bytes
 abbrev pub fullEnd : ℕ

@@ -9,6 +9,7 @@ use lib.Dec.{eqb, ltb}
 use lib.IntN.{ℤ, pos}
 use lib.ListN.{length, take, length-append}
 use mir.Val.{boolByte}
+use Rattle.text.specs.HexList.{hexesOf}
 use Rattle.state.specs.declared.Extremes.{Extremes as LeastAndGreatest}
 use Rattle.state.specs.declared.Outcome.{Outcome}
 use Rattle.state.specs.ValidLaws.{good-fresh}
@@ -52,7 +53,7 @@ use Rattle.sheet.specs.declared.orders.Word.{Word}
 use Rattle.sheet.specs.declared.orders.Word.the-variants.{Plain, Heading, Log, End, Cut, Extremes, Asked}
 use Rattle.sheet.specs.declared.Sheet.{Sheet}
 use Rattle.sheet.specs.LogWordLaws.{log-fits}
-use Rattle.sheet.specs.LogWords.{bytesOf, isLog, logOf}
+use Rattle.sheet.specs.LogWords.{bytesOf, isLog}
 use Rattle.sheet.specs.Orders.{wordNamed}
 use Rattle.sheet.specs.Sheet.{withRun, wrongLine, loadedBy, afterStart, startText, afterPiece, pieceOf, wordsBehind, afterLog, logText, fullEnd, numbersText, buildText, readText, diagnoseText, questionText, numberBehind, answerText, askedText, givenBy, afterCut, toldBy, cutText, extremesText, afterEvent, eventText, afterPlain, plainText, afterWord, wordText, afterLine, lineText, room}
 
@@ -64,7 +65,7 @@ ready-piece full s bytes r = by-test (s .running) _ _ (λ (x : Sheet). Ready (x 
 
 ready-log : (s : Sheet) (line : List ℕ) → Ready (s .progress) → Ready (afterLog s line .progress)
 unfolding afterLog
-ready-log s line r = by-test (isLog (wordsBehind line)) _ _ (λ (x : Sheet). Ready (x .progress)) (λ _. ready-piece 0 s (bytesOf (logOf (wordsBehind line))) r) (λ _. r)
+ready-log s line r = by-test (isLog (wordsBehind line)) _ _ (λ (x : Sheet). Ready (x .progress)) (λ _. ready-piece 0 s (bytesOf (hexesOf (wordsBehind line))) r) (λ _. r)
 
 ready-start : (s : Sheet) → Ready (afterStart s .progress)
 unfolding afterStart loadedOf
@@ -117,8 +118,8 @@ log-most : (s : Sheet) (line : List ℕ) → length (logText s line) ≤ room
 unfolding logText
 log-most s line = by (isLog (wordsBehind line)) refl
   where
-    by : (t : Bool) → isLog (wordsBehind line) ≡ t → length (cond t (pieceOf 0 s (bytesOf (logOf (wordsBehind line)))) wrongLine) ≤ room
-    by true e = piece-most 0 s (bytesOf (logOf (wordsBehind line))) (log-fits (wordsBehind line) e)
+    by : (t : Bool) → isLog (wordsBehind line) ≡ t → length (cond t (pieceOf 0 s (bytesOf (hexesOf (wordsBehind line)))) wrongLine) ≤ room
+    by true e = piece-most 0 s (bytesOf (hexesOf (wordsBehind line))) (log-fits (wordsBehind line) e)
     by false e = omega arith
 
 opening-most : (l : Loaded) → length (openingText l) ≤ room

@@ -10,7 +10,8 @@ ghost use lib.ListN.{length};
 ghost use Rattle.integers.specs.TwosComplement.{bitsOf};
 ghost use Rattle.text.specs.Put.{Put};
 ghost use Rattle.text.specs.Words.{wordsOf};
-ghost use Rattle.sheet.specs.LogWords.{leastFirst, bytesOf, isLog, logOf};
+ghost use Rattle.text.specs.HexList.{hexesOf};
+ghost use Rattle.sheet.specs.LogWords.{leastFirst, bytesOf, isLog};
 
 // Puts a word as four bytes.
 fn put_word(out: &mut [u8], at: usize, w: u32) -> usize
@@ -44,31 +45,13 @@ pub fn put_table(out: &mut [u8], t: &[i32]) -> usize
 pub fn is_log(s: &[u8]) -> bool
     ensures { λ r. ⌜ r ≡ isLog (wordsOf (now (s .entry))) ⌝ }
 {
-    let mut t = s;
-    let mut n: usize = 0;
-    loop {
-        let w = words::word(t);
-        if w.len() == 0 {
-            return true;
-        }
-        if n == 100 {
-            return false;
-        }
-        if hex::is_hex(w, 1, 8) {
-            let r = words::rest(t);
-            let k = t.len() - r.len();
-            t = &t[k..];
-            n += 1;
-        } else {
-            return false;
-        }
-    }
+    hex::are_hex(s, 100, 1, 8)
 }
 
 // Puts the words of a log at the start of a buffer.
 pub fn put_log(out: &mut [u8], s: &[u8]) -> usize
     requires { ⌜ (400 ≤ length (now out)) × (isLog (wordsOf (now s)) ≡ true) ⌝ }
-    ensures { λ r. ⌜ Put (now (out .entry)) 0 (bytesOf (logOf (wordsOf (now (s .entry))))) r (now (out .exit)) ⌝ }
+    ensures { λ r. ⌜ Put (now (out .entry)) 0 (bytesOf (hexesOf (wordsOf (now (s .entry))))) r (now (out .exit)) ⌝ }
 {
     let mut t = s;
     let mut p: usize = 0;

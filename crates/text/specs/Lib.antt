@@ -10,3 +10,5 @@ pub mod PlainLaws
 pub mod Hex
 pub mod HexLaws
 pub mod HexBackLaws
+pub mod HexList
+pub mod HexListLaws

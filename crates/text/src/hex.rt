@@ -1,4 +1,5 @@
 // Hex digits: read in either case, and bytes written as two upper-case digits each.
+use crate::words;
 ghost use mathlib.Core.Path.{_≡_};
 ghost use mathlib.Core.Bool.{true};
 ghost use mathlib.Core.List.{_∷_};
@@ -6,6 +7,8 @@ ghost use Prim.Native.Nat.{_+_, _*_, _≤_, _<_};
 ghost use lib.ListN.{length};
 ghost use Rattle.text.specs.Marks.{space};
 ghost use Rattle.text.specs.Hex.{hexDigit, allHex, isHex, hexOf, hexLetter, hexPair, spacedPairs, hexText};
+ghost use Rattle.text.specs.HexList.{areHex};
+ghost use Rattle.text.specs.Words.{wordsOf};
 ghost use Rattle.text.specs.Put.{Put};
 
 // What a byte stands for as a hex digit; 16 for a byte that is none.
@@ -52,6 +55,31 @@ pub fn is_hex(s: &[u8], least: usize, most: usize) -> bool
     ensures { λ r. ⌜ r ≡ isHex least most (now (s .entry)) ⌝ }
 {
     least <= s.len() && (s.len() <= most && all_hex(s))
+}
+
+// Whether the words of a text are at most `count` numbers of so many hex digits.
+pub fn are_hex(s: &[u8], count: usize, least: usize, most: usize) -> bool
+    ensures { λ r. ⌜ r ≡ areHex count least most (wordsOf (now (s .entry))) ⌝ }
+{
+    let mut t = s;
+    let mut n: usize = 0;
+    loop {
+        let w = words::word(t);
+        if w.len() == 0 {
+            return true;
+        }
+        if n == count {
+            return false;
+        }
+        if is_hex(w, least, most) {
+            let r = words::rest(t);
+            let k = t.len() - r.len();
+            t = &t[k..];
+            n += 1;
+        } else {
+            return false;
+        }
+    }
 }
 
 // A byte as a number of 32 bits.
