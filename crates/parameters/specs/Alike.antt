@@ -4,7 +4,7 @@ use mathlib.Core.Path.{_≡_}
 use mathlib.Core.Bool.{Bool, true, false, not, _&&_, _||_}
 use mathlib.Core.List.{List, [], _∷_}
 use Prim.Native.Nat.{ℕ, _≤_}
-use lib.Dec.{eqb}
+use lib.Dec.{eqb, ltb}
 use lib.IntN.{ℤ}
 use Rattle.parameters.specs.Slots.{wordAt, offsetSlot, preselectionSlot}
 
@@ -24,3 +24,12 @@ misses touched (slot ∷ slots) = not (touched slot) && misses touched slots
 -- no slot from one on is touched
 abbrev pub MissesFrom : (ℕ → Bool) → ℕ → Type 0
 MissesFrom touched first = (slot : ℕ) → first ≤ slot → touched slot ≡ false
+
+-- the slots below 55 that a condition 3 to 9 looks at: the field's, the error bit's, the linearization's, the analog span's, target and polarity of each
+-- preselection, action and config of each input
+abbrev pub checkedSlots : List ℕ
+checkedSlots = 0 ∷ 3 ∷ 4 ∷ 8 ∷ 13 ∷ 15 ∷ 16 ∷ 21 ∷ 22 ∷ 29 ∷ 30 ∷ 37 ∷ 38 ∷ 45 ∷ 46 ∷ 49 ∷ 50 ∷ 51 ∷ 52 ∷ 53 ∷ 54 ∷ []
+
+-- no condition 3 to 9 looks at a slot; from 55 on are the points in use and the points
+abbrev pub unchecked : ℕ → Bool
+unchecked slot = ltb slot 55 && misses (eqb slot) checkedSlots

@@ -3,33 +3,27 @@
 use mathlib.Core.Path.{_≡_, refl, sym, ap, _∙_}
 use mathlib.Core.Bool.{Bool, true, false, not, _&&_}
 use mathlib.Core.List.{List, [], _∷_}
-use Prim.Native.Nat.{ℕ, zero, suc, _+_, _*_, _<_}
+use Prim.Native.Nat.{ℕ, zero, suc, _+_, _*_, _<_, _≤_}
 use native.Mathlib.Decide.{ℕ-discrete}
 use native.Mathlib.Omega.{arith}
-use borrow.Author.Tests.{ne-eqb}
+use borrow.Author.Tests.{eq-eqb, ne-eqb, ltb-true, not-true}
+use lib.Dec.{eqb, ltb}
 use lib.IntN.{ℤ, pos, negℤ}
 use lib.ListN.{length, getD, set, length-set}
 use lib.Seq.{getD-set-same, getD-set-other}
 use lib.Signed.{leZ}
 use Rattle.integers.specs.Limit.{Z}
 use Rattle.integers.specs.ChoiceLaws.{is-true}
+use Rattle.integers.specs.TestLaws.{and-both}
 use Rattle.integers.specs.Int.{Within}
 use Rattle.integers.specs.IntLaws.{le-of}
 use Rattle.parameters.specs.Rows.{rowOf, rowAt, inRange}
 use Rattle.parameters.specs.Slots.{wordAt, offsetSlot, preselectionSlot, offset, preselection, withWord, withOffset, withPreselection, layoutSlots, scalingSlots, spanSlots, preselectionSlots, inputSlots, firstPointSlot}
-use Rattle.parameters.specs.Alike.{Alike, storedSlot, misses, MissesFrom}
+use Rattle.parameters.specs.Alike.{Alike, storedSlot, misses, MissesFrom, checkedSlots, unchecked}
 use Rattle.parameters.specs.SearchLaws.{some-same}
 use Rattle.parameters.specs.Load.{fieldWrong, errorBitWrong, spanEmpty, notAbove, pointsNotRising, originMissing, frozenByEdge, freezeOnEdge, differ, differsFrom, polaritiesDiffer}
 use Rattle.parameters.specs.Valid.{Valid}
-use Rattle.parameters.specs.RangeLaws.{four}
-
-and-first : (a b : Bool) → (not a && b) ≡ true → a ≡ false
-and-first true b e = sym e
-and-first false b e = refl
-
-and-second : (a b : Bool) → (not a && b) ≡ true → b ≡ true
-and-second true b e = let w : _≡_ {A = ℕ} 0 1 = cc in absurd (omega arith)
-and-second false b e = e
+use Rattle.parameters.specs.RangeLaws.{three, four}
 
 -- a store changes its own slot and no other
 pub word-stored : (t : List ℤ) (slot : ℕ) (x : ℤ) → slot < length t → wordAt (set t slot x) slot ≡ x
@@ -65,8 +59,8 @@ preselection-alike t k x h =
 pub missed : (touched : ℕ → Bool) (slots : List ℕ) → misses touched slots ≡ true → (i : ℕ) → i < length slots → touched (getD slots i 0) ≡ false
 unfolding misses
 missed touched [] m i h = absurd (omega arith)
-missed touched (slot ∷ slots) m zero h = and-first (touched slot) (misses touched slots) m
-missed touched (slot ∷ slots) m (suc i) h = missed touched slots (and-second (touched slot) (misses touched slots) m) i (omega arith)
+missed touched (slot ∷ slots) m zero h = not-true (touched slot) (and-both (not (touched slot)) (misses touched slots) m .0)
+missed touched (slot ∷ slots) m (suc i) h = missed touched slots (and-both (not (touched slot)) (misses touched slots) m .1) i (omega arith)
 
 -- ---- what resets and teaches miss
 
@@ -106,89 +100,95 @@ stored-preselection k h = four (λ (k : ℕ). misses storedSlot (preselectionSlo
 pub stored-points : MissesFrom storedSlot firstPointSlot
 stored-points slot h = unstored slot (λ e. omega arith) (λ k l e. omega arith)
 
--- no condition 3 to 9 tells them apart
-module _ {s t : List ℤ} (a : Alike storedSlot s t) where
-  at : (slot : ℕ) → (slot ≡ 5 → ⊥) → ((k : ℕ) → k < 4 → slot ≡ 17 + 8 * k → ⊥) → wordAt s slot ≡ wordAt t slot
-  at slot n m = a .same slot (unstored slot n m)
+-- ---- what the conditions 3 to 9 miss
+
+-- no condition 3 to 9 tells tables apart that are alike outside slots which none of them looks at
+module _ {touched : ℕ → Bool} (m : misses touched checkedSlots ≡ true) (n : MissesFrom touched 55) {s t : List ℤ} (a : Alike touched s t) where
+  at : (i : ℕ) → i < 21 → wordAt s (getD checkedSlots i 0) ≡ wordAt t (getD checkedSlots i 0)
+  at i h = a .same (getD checkedSlots i 0) (missed touched checkedSlots m i h)
+
+  from : (slot : ℕ) → 55 ≤ slot → wordAt s slot ≡ wordAt t slot
+  from slot h = a .same slot (n slot h)
 
   field-alike : fieldWrong s ≡ fieldWrong t
   unfolding fieldWrong
-  field-alike =
-      rw (at 0 (λ e. omega arith) (λ k h e. omega arith), at 3 (λ e. omega arith) (λ k h e. omega arith), at 4 (λ e. omega arith) (λ k h e. omega arith))
+  field-alike = rw (at 0 (omega arith), at 1 (omega arith), at 2 (omega arith))
 
   error-bit-alike : errorBitWrong s ≡ errorBitWrong t
   unfolding errorBitWrong
-  error-bit-alike =
-      rw (
-        at 0 (λ e. omega arith) (λ k h e. omega arith),
-        at 3 (λ e. omega arith) (λ k h e. omega arith),
-        at 4 (λ e. omega arith) (λ k h e. omega arith),
-        at 8 (λ e. omega arith) (λ k h e. omega arith),
-      )
+  error-bit-alike = rw (at 0 (omega arith), at 1 (omega arith), at 2 (omega arith), at 3 (omega arith))
 
   span-alike : spanEmpty s ≡ spanEmpty t
   unfolding spanEmpty
-  span-alike = rw (at 15 (λ e. omega arith) (λ k h e. omega arith), at 16 (λ e. omega arith) (λ k h e. omega arith))
+  span-alike = rw (at 5 (omega arith), at 6 (omega arith))
 
   above-alike : (j : ℕ) → notAbove s j ≡ notAbove t j
   unfolding notAbove
-  above-alike j =
-      rw (
-        at 55 (λ e. omega arith) (λ k h e. omega arith),
-        at (56 + 2 * (j + 1)) (λ e. omega arith) (λ k h e. omega arith),
-        at (56 + 2 * j) (λ e. omega arith) (λ k h e. omega arith),
-      )
+  above-alike j = rw (from 55 (omega arith), from (56 + 2 * (j + 1)) (omega arith), from (56 + 2 * j) (omega arith))
 
   points-alike : pointsNotRising s ≡ pointsNotRising t
   unfolding pointsNotRising
-  points-alike = rw (at 13 (λ e. omega arith) (λ k h e. omega arith), some-same (notAbove s) (notAbove t) 23 (λ j h. above-alike j))
+  points-alike = rw (at 4 (omega arith), some-same (notAbove s) (notAbove t) 23 (λ j h. above-alike j))
 
   origin-alike : originMissing s ≡ originMissing t
   unfolding originMissing
-  origin-alike =
-      rw (
-        at 13 (λ e. omega arith) (λ k h e. omega arith),
-        at 56 (λ e. omega arith) (λ k h e. omega arith),
-        at 57 (λ e. omega arith) (λ k h e. omega arith),
-      )
+  origin-alike = rw (at 4 (omega arith), from 56 (omega arith), from 57 (omega arith))
 
-  edge-alike : (i : ℕ) → frozenByEdge s i ≡ frozenByEdge t i
+  edge-alike : (i : ℕ) → i < 3 → frozenByEdge s i ≡ frozenByEdge t i
   unfolding frozenByEdge
-  edge-alike i = rw (at (49 + 2 * i) (λ e. omega arith) (λ k h e. omega arith), at (50 + 2 * i) (λ e. omega arith) (λ k h e. omega arith))
+  edge-alike i h =
+      rw (
+        three (λ (i : ℕ). wordAt s (49 + 2 * i) ≡ wordAt t (49 + 2 * i)) (at 15 (omega arith)) (at 17 (omega arith)) (at 19 (omega arith)) i h,
+        three (λ (i : ℕ). wordAt s (50 + 2 * i) ≡ wordAt t (50 + 2 * i)) (at 16 (omega arith)) (at 18 (omega arith)) (at 20 (omega arith)) i h,
+      )
 
   freeze-alike : freezeOnEdge s ≡ freezeOnEdge t
   unfolding freezeOnEdge
-  freeze-alike = some-same (frozenByEdge s) (frozenByEdge t) 3 (λ i h. edge-alike i)
+  freeze-alike = some-same (frozenByEdge s) (frozenByEdge t) 3 edge-alike
 
-  differ-alike : (j k : ℕ) → differ s j k ≡ differ t j k
+  target-alike : (k : ℕ) → k < 4 → wordAt s (21 + 8 * k) ≡ wordAt t (21 + 8 * k)
+  target-alike k h =
+      four (λ (k : ℕ). wordAt s (21 + 8 * k) ≡ wordAt t (21 + 8 * k)) (at 7 (omega arith)) (at 9 (omega arith)) (at 11 (omega arith)) (at 13 (omega arith)) k h
+
+  polarity-alike : (k : ℕ) → k < 4 → wordAt s (22 + 8 * k) ≡ wordAt t (22 + 8 * k)
+  polarity-alike k h =
+      four (λ (k : ℕ). wordAt s (22 + 8 * k) ≡ wordAt t (22 + 8 * k)) (at 8 (omega arith)) (at 10 (omega arith)) (at 12 (omega arith)) (at 14 (omega arith)) k h
+
+  differ-alike : (j k : ℕ) → j < 4 → k < 4 → differ s j k ≡ differ t j k
   unfolding differ
-  differ-alike j k =
-      rw (
-        at (21 + 8 * j) (λ e. omega arith) (λ k h e. omega arith),
-        at (21 + 8 * k) (λ e. omega arith) (λ k h e. omega arith),
-        at (22 + 8 * j) (λ e. omega arith) (λ k h e. omega arith),
-        at (22 + 8 * k) (λ e. omega arith) (λ k h e. omega arith),
-      )
+  differ-alike j k h l = rw (target-alike j h, target-alike k l, polarity-alike j h, polarity-alike k l)
 
   polarities-alike : polaritiesDiffer s ≡ polaritiesDiffer t
   unfolding polaritiesDiffer differsFrom
-  polarities-alike = some-same (differsFrom s) (differsFrom t) 4 (λ j h. some-same (differ s j) (differ t j) 4 (λ k l. differ-alike j k))
+  polarities-alike = some-same (differsFrom s) (differsFrom t) 4 (λ j h. some-same (differ s j) (differ t j) 4 (λ k l. differ-alike j k h l))
 
--- a word in range is stored in one of these slots
-pub valid-store : {t : List ℤ} → Valid t → (slot : ℕ) (x : ℤ) → slot < 104 → inRange slot x ≡ true → Alike storedSlot (set t slot x) t → Valid (set t slot x)
-valid-store {t} v slot x b e a =
+-- a word in its range, stored in a slot that no condition 3 to 9 looks at, leaves a valid table valid
+pub valid-store : {t : List ℤ} → Valid t → (slot : ℕ) (x : ℤ) → unchecked slot ≡ true → inRange slot x ≡ true → Valid (withWord t slot x)
+valid-store {t} v slot x u e =
     record {
       long = length-set t slot x ∙ v .long;
       ranged = λ other h. in-slot other h (ℕ-discrete other slot);
-      field = field-alike a ∙ v .field;
-      error-bit = error-bit-alike a ∙ v .error-bit;
-      span = span-alike a ∙ v .span;
-      points = points-alike a ∙ v .points;
-      origin = origin-alike a ∙ v .origin;
-      freeze = freeze-alike a ∙ v .freeze;
-      polarities = polarities-alike a ∙ v .polarities;
+      field = field-alike m n a ∙ v .field;
+      error-bit = error-bit-alike m n a ∙ v .error-bit;
+      span = span-alike m n a ∙ v .span;
+      points = points-alike m n a ∙ v .points;
+      origin = origin-alike m n a ∙ v .origin;
+      freeze = freeze-alike m n a ∙ v .freeze;
+      polarities = polarities-alike m n a ∙ v .polarities;
     }
   where
+    low : slot < 55
+    low = ltb-true slot 55 (and-both (ltb slot 55) (misses (eqb slot) checkedSlots) u .0)
+
+    m : misses (eqb slot) checkedSlots ≡ true
+    m = and-both (ltb slot 55) (misses (eqb slot) checkedSlots) u .1
+
+    n : MissesFrom (eqb slot) 55
+    n other h = ne-eqb slot other (λ p. omega (arith, low))
+
+    a : Alike (eqb slot) (withWord t slot x) t
+    a = stored-alike (eqb slot) t slot x (eq-eqb slot slot refl)
+
     in-slot : (other : ℕ) → other < 104 → Dec (other ≡ slot) → inRange other (wordAt (set t slot x) other) ≡ true
     in-slot other h (yes p) = rw (p, word-stored t slot x (omega (arith, v .long))) e
     in-slot other h (no n) = rw (word-kept t slot x other n) (v .ranged other h)
@@ -202,15 +202,14 @@ whole-in x w =
     )
 
 pub valid-offset : {t : List ℤ} {x : ℤ} → Valid t → Within Z x → Valid (withOffset t x)
-unfolding inRange rowAt rowOf
-valid-offset {t} {x} v w = valid-store v offsetSlot x (omega arith) (whole-in x w) (offset-alike t x)
+unfolding inRange rowAt rowOf misses
+valid-offset {t} {x} v w = valid-store v offsetSlot x refl (whole-in x w)
 
 pub valid-preselection : {t : List ℤ} {x : ℤ} → Valid t → Within Z x → (k : ℕ) → k < 4 → Valid (withPreselection t k x)
-unfolding inRange rowAt rowOf
+unfolding inRange rowAt rowOf misses
 valid-preselection {t} {x} v w k h =
-    valid-store v (preselectionSlot k) x (omega arith)
+    valid-store v (preselectionSlot k) x (four (λ (k : ℕ). unchecked (preselectionSlot k) ≡ true) refl refl refl refl k h)
     (four (λ (k : ℕ). inRange (preselectionSlot k) x ≡ true) (whole-in x w) (whole-in x w) (whole-in x w) (whole-in x w) k h)
-    (preselection-alike t k x h)
 
 -- what is stored is read back, and the other preselections are kept
 pub offset-stored : {t : List ℤ} (x : ℤ) → Valid t → offset (withOffset t x) ≡ x

@@ -5,6 +5,9 @@ ghost use Rattle.parameters.specs.Rows.{rowOf, rowAt, inRange, lowestOut
 // A slot's row: the lowest word, the highest word, and the default.
 struct Row(i32, i32, i32);
 
+// The hysteresis that all four preselections come with. Paper 02, K1.
+const HYSTERESIS_DEFAULT: i32 = 2;
+
 // Every slot's row, in the order of the slots; the points share the last.
 const ROWS: [Row; 57] = [
     Row(10, 32, 25), // 0: resolution N
@@ -26,7 +29,7 @@ const ROWS: [Row; 57] = [
     Row(-99_999_999, 99_999_999, 10_000), // 16: analog end
     Row(-99_999_999, 99_999_999, 1000), // 17: preselection 1
     Row(0, 6, 0), // 18: its mode
-    Row(0, 9999, 0), // 19: hysteresis
+    Row(0, 9999, HYSTERESIS_DEFAULT), // 19: hysteresis
     Row(0, 60_000, 0), // 20: pulse, ms
     Row(0, 4, 1), // 21: target output, 0 none
     Row(0, 1, 0), // 22: polarity: 1 active low
@@ -34,7 +37,7 @@ const ROWS: [Row; 57] = [
     Row(0, 1, 0), // 24: start-up suppression
     Row(-99_999_999, 99_999_999, 2000), // 25: preselection 2
     Row(0, 6, 0), // 26: its mode
-    Row(0, 9999, 0), // 27: hysteresis
+    Row(0, 9999, HYSTERESIS_DEFAULT), // 27: hysteresis
     Row(0, 60_000, 0), // 28: pulse, ms
     Row(0, 4, 2), // 29: target output, 0 none
     Row(0, 1, 0), // 30: polarity: 1 active low
@@ -42,7 +45,7 @@ const ROWS: [Row; 57] = [
     Row(0, 1, 0), // 32: start-up suppression
     Row(-99_999_999, 99_999_999, 3000), // 33: preselection 3
     Row(0, 6, 0), // 34: its mode
-    Row(0, 9999, 0), // 35: hysteresis
+    Row(0, 9999, HYSTERESIS_DEFAULT), // 35: hysteresis
     Row(0, 60_000, 0), // 36: pulse, ms
     Row(0, 4, 3), // 37: target output, 0 none
     Row(0, 1, 0), // 38: polarity: 1 active low
@@ -50,7 +53,7 @@ const ROWS: [Row; 57] = [
     Row(0, 1, 0), // 40: start-up suppression
     Row(-99_999_999, 99_999_999, 4000), // 41: preselection 4
     Row(0, 6, 0), // 42: its mode
-    Row(0, 9999, 0), // 43: hysteresis
+    Row(0, 9999, HYSTERESIS_DEFAULT), // 43: hysteresis
     Row(0, 60_000, 0), // 44: pulse, ms
     Row(0, 4, 4), // 45: target output, 0 none
     Row(0, 1, 0), // 46: polarity: 1 active low

@@ -1,5 +1,5 @@
 //! The parameter table: 104 signed words, their ranges and defaults, and load checks 1 to 9.
-//! Paper: "The parameter table" and the load rows of "Where each check sits".
+//! Paper: "The parameter table" and the load rows of "Where each check sits"; K1 gives hysteresis its default.
 
 /// Words of a table.
 pub const SLOTS: usize = 104;
@@ -112,7 +112,7 @@ const fn preselection_row(k: usize, place: usize) -> (i32, i32, i32) {
     match place {
         0 => (-Z, Z, 1_000 * number),
         1 => (0, 6, 0),
-        2 => (0, 9_999, 0),
+        2 => (0, 9_999, 2), // K1
         3 => (0, 60_000, 0),
         4 => (0, 4, number),
         _ => (0, 1, 0),

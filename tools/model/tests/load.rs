@@ -16,8 +16,21 @@ fn load(slots: &[(usize, i32)]) -> (u8, usize) {
 #[test]
 fn defaults_load() {
     assert!(table::load(&table::defaults()).is_ok());
-    assert_eq!(table::defaults()[17..25], [1_000, 0, 0, 0, 1, 0, 0, 0]);
-    assert_eq!(table::defaults()[41..49], [4_000, 0, 0, 0, 4, 0, 0, 0]);
+    for k in 0..4 {
+        let number = k as i32 + 1;
+        let first = 17 + 8 * k;
+        assert_eq!(table::defaults()[first..first + 8], [1_000 * number, 0, 2, 0, number, 0, 0, 0]);
+    }
+}
+
+/// K1: stored tables keep what they hold.
+#[test]
+fn stored_hysteresis_is_kept() {
+    for h in [0, 1, 2, 9_999] {
+        let stored = words(&[(19, h), (27, h), (35, h), (43, h)]);
+        let kept = table::load(&stored).unwrap().preselections.map(|p| p.hysteresis);
+        assert_eq!(kept, [h.into(); 4]);
+    }
 }
 
 #[test]

@@ -195,6 +195,14 @@ fn mode_4_with_hysteresis() {
     assert_eq!(run, [false, true, true, false, false]);
 }
 
+/// K1: how often output 1 switches at the edge of preselection 1, as it comes and with a stored 0.
+#[test]
+fn chattering() {
+    let edge = telegrams(&[999, 1_000, 999, 1_000, 999]);
+    assert_eq!(output_1(&table(&[]), &edge), [false, true, true, true, true]);
+    assert_eq!(output_1(&table(&[(19, 0)]), &edge), [false, true, false, true, false]);
+}
+
 #[test]
 fn mode_6_compares_with_partner_minus_own() {
     let table = table(&[(17, 30), (18, 6), (19, 5), (25, 100)]);
@@ -253,7 +261,7 @@ fn suppression_does_not_end_before_the_first_telegram() {
 
 #[test]
 fn pulse_starts_anew_with_its_full_time() {
-    let table = table(&[(17, 10), (18, 3), (20, 50)]);
+    let table = table(&[(17, 10), (18, 3), (19, 0), (20, 50)]);
     let events = [Telegram(10), Tick(30), Telegram(9), Telegram(10), Tick(49), Tick(1)];
     assert_eq!(output_1(&table, &events), [true, true, true, true, true, false]);
     assert_eq!(state_after(&table, &events[..4]).switches[0].pulse_left, 50);
