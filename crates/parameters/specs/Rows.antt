@@ -35,7 +35,7 @@ abbrev pub preselectionRows : ℕ → List Row
 preselectionRows k =
     whole (1000 * (k + 1)) ∷  -- 17 + 8k: preselection
     upTo 6 0 ∷  -- 18 + 8k: its mode
-    upTo 9999 2 ∷  -- 19 + 8k: hysteresis, by K1
+    upTo 9999 2 ∷  -- 19 + 8k: hysteresis, 2 by K1
     upTo 60000 0 ∷  -- 20 + 8k: pulse, ms
     upTo 4 (k + 1) ∷  -- 21 + 8k: target output, 0 none
     upTo 1 0 ∷  -- 22 + 8k: polarity, 1 active low

@@ -1,5 +1,5 @@
--- A reset stores an offset and a teach stores a preselection. The table stays valid, for no condition 3 to 9 looks at these slots,
--- and every other slot keeps its word. Paper 01, "Events and inputs".
+-- A word in range, stored in a slot that no condition 3 to 9 looks at, leaves a table valid, and every other slot keeps its word. So it is with the offset that a
+-- reset stores and the preselection that a teach stores. Paper 01, "Events and inputs".
 use mathlib.Core.Path.{_≡_, refl, sym, ap, _∙_}
 use mathlib.Core.Bool.{Bool, true, false, not, _&&_}
 use mathlib.Core.List.{List, [], _∷_}
@@ -64,16 +64,6 @@ missed touched (slot ∷ slots) m (suc i) h = missed touched slots (and-both (no
 
 -- ---- what resets and teaches miss
 
-unstored : (slot : ℕ) → (slot ≡ 5 → ⊥) → ((k : ℕ) → k < 4 → slot ≡ 17 + 8 * k → ⊥) → storedSlot slot ≡ false
-unstored slot n m =
-    rw (
-      ne-eqb slot 5 n,
-      ne-eqb slot 17 (m 0 (omega arith)),
-      ne-eqb slot 25 (m 1 (omega arith)),
-      ne-eqb slot 33 (m 2 (omega arith)),
-      ne-eqb slot 41 (m 3 (omega arith)),
-    )
-
 pub stored-layout : misses storedSlot layoutSlots ≡ true
 unfolding misses
 stored-layout = refl
@@ -88,17 +78,21 @@ stored-span = refl
 
 pub stored-input : (i : ℕ) → i < 3 → misses storedSlot (inputSlots i) ≡ true
 unfolding misses
-stored-input zero h = refl
-stored-input (suc zero) h = refl
-stored-input (suc (suc zero)) h = refl
-stored-input (suc (suc (suc i))) h = absurd (omega arith)
+stored-input i h = three (λ (i : ℕ). misses storedSlot (inputSlots i) ≡ true) refl refl refl i h
 
 pub stored-preselection : (k : ℕ) → k < 4 → misses storedSlot (preselectionSlots k) ≡ true
 unfolding misses
 stored-preselection k h = four (λ (k : ℕ). misses storedSlot (preselectionSlots k) ≡ true) refl refl refl refl k h
 
 pub stored-points : MissesFrom storedSlot firstPointSlot
-stored-points slot h = unstored slot (λ e. omega arith) (λ k l e. omega arith)
+stored-points slot h =
+    rw (
+      ne-eqb slot 5 (λ e. omega arith),
+      ne-eqb slot 17 (λ e. omega arith),
+      ne-eqb slot 25 (λ e. omega arith),
+      ne-eqb slot 33 (λ e. omega arith),
+      ne-eqb slot 41 (λ e. omega arith),
+    )
 
 -- ---- what the conditions 3 to 9 miss
 
