@@ -7,8 +7,6 @@ use native.Mathlib.Omega.{arith}
 use borrow.Author.Tests.{ne-eqb}
 use lib.IntN.{ℤ, pos}
 use lib.Signed.{leZ}
-use Rattle.integers.specs.ChoiceLaws.{is-true}
-use Rattle.integers.specs.IntLaws.{le-of}
 use Rattle.parameters.specs.Rows.{rowOf, rowAt, inRange, defaultsFrom, defaultTable}
 use Rattle.parameters.specs.Slots.{hysteresis, withWord}
 use Rattle.parameters.specs.Alike.{misses, unchecked}
@@ -16,7 +14,7 @@ use Rattle.parameters.specs.Load.{loadRefusal, loadOf}
 use Rattle.parameters.specs.Valid.{Valid}
 use Rattle.parameters.specs.ValidLaws.{loads, valid-loads}
 use Rattle.parameters.specs.RangeLaws.{four}
-use Rattle.parameters.specs.StoreLaws.{word-stored, valid-store}
+use Rattle.parameters.specs.StoreLaws.{word-stored, in-bounds, valid-store}
 
 -- the default of all four
 pub default-hysteresis : (k : ℕ) → k < 4 → hysteresis defaultTable k ≡ 2
@@ -39,7 +37,7 @@ valid-hysteresis v k h b l =
     (four (λ (k : ℕ). inRange (19 + 8 * k) (pos h) ≡ true) fits fits fits fits k b)
   where
     fits : (leZ (pos 0) (pos h) && leZ (pos h) (pos 9999)) ≡ true
-    fits = rw (is-true (leZ (pos 0) (pos h)) (le-of (pos 0) (pos h) (omega arith) .le), is-true (leZ (pos h) (pos 9999)) (le-of (pos h) (pos 9999) (omega arith) .le))
+    fits = in-bounds (pos 0) (pos 9999) (pos h) (omega arith) (omega arith)
 
 -- a table that loads, with any hysteresis from 0 to 9,999 in place of its own, loads as it is
 pub hysteresis-kept : (t : List ℤ) → loadRefusal t ≡ 0 → (k h : ℕ) → k < 4 → h ≤ 9999 →

@@ -15,7 +15,7 @@ use lib.Signed.{leZ}
 use Rattle.integers.specs.Limit.{Z}
 use Rattle.integers.specs.ChoiceLaws.{is-true}
 use Rattle.integers.specs.TestLaws.{and-both}
-use Rattle.integers.specs.Int.{Within}
+use Rattle.integers.specs.Int.{P, N, Within}
 use Rattle.integers.specs.IntLaws.{le-of}
 use Rattle.parameters.specs.Rows.{rowOf, rowAt, inRange}
 use Rattle.parameters.specs.Slots.{wordAt, offsetSlot, preselectionSlot, offset, preselection, withWord, withOffset, withPreselection, layoutSlots, scalingSlots, spanSlots, preselectionSlots, inputSlots, firstPointSlot}
@@ -187,13 +187,12 @@ valid-store {t} v slot x u e =
     in-slot other h (yes p) = rw (p, word-stored t slot x (omega (arith, v .long))) e
     in-slot other h (no n) = rw (word-kept t slot x other n) (v .ranged other h)
 
--- a word from −Z to Z is in the range of each of these slots
+-- a word between two bounds passes their test; one from −Z to Z passes that of the offset and of the preselections
+pub in-bounds : (l h x : ℤ) → P l + N x ≤ P x + N l → P x + N h ≤ P h + N x → (leZ l x && leZ x h) ≡ true
+in-bounds l h x a b = rw (is-true (leZ l x) (le-of l x a .le), is-true (leZ x h) (le-of x h b .le))
+
 whole-in : (x : ℤ) → Within Z x → (leZ (negℤ (pos Z)) x && leZ x (pos Z)) ≡ true
-whole-in x w =
-    rw (
-      is-true (leZ (negℤ (pos Z)) x) (le-of (negℤ (pos Z)) x (omega (arith, w .below)) .le),
-      is-true (leZ x (pos Z)) (le-of x (pos Z) (omega (arith, w .above)) .le),
-    )
+whole-in x w = in-bounds (negℤ (pos Z)) (pos Z) x (omega (arith, w .below)) (omega (arith, w .above))
 
 pub valid-offset : {t : List ℤ} {x : ℤ} → Valid t → Within Z x → Valid (withOffset t x)
 unfolding inRange rowAt rowOf misses
