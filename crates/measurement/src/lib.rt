@@ -6,7 +6,7 @@ ghost use lib.IntN.{pos};
 ghost use lib.ListN.{length};
 ghost use Rattle.integers.specs.Int.{Within};
 ghost use Rattle.integers.specs.Fraction.{whole, nearest};
-ghost use Rattle.measurement.specs.Curve.{highestOf, lineValue, pointsFrom, fourQuadrants, oneQuadrant, linearizedOf};
+ghost use Rattle.measurement.specs.Curve.{pointAt, highestOf, lineValue, pointsFrom, fourQuadrants, oneQuadrant, linearizedOf};
 ghost use Rattle.measurement.specs.Measure.{errorNumber, measured, directedOf, distanceOf, scaledOf, judgedOf, measuredOf};
 ghost use Rattle.measurement.specs.Sound.{OnLine, Usable, Linearizable, Sound};
 
@@ -127,18 +127,27 @@ fn judged(reported: bool, v: i64) -> Measured
     }
 }
 
-// The highest of the first n control points whose x is at most v, or none: from the last down.
+// The x of control point i, counted from 0.
+fn x_of(points: &[i32], i: usize) -> i64
+    requires { ⌜ 2 * i < length (now points) ⌝ }
+    ensures { λ r. ⌜ r ≡ pointAt (now (points .entry)) i .x ⌝ }
+{
+    points[2 * i] as i64
+}
+
+// The highest of the first n control points whose x is at most v, or none.
+// K3: the search starts at the last used point and goes down; the first point that fits is the highest, and ends it.
 fn highest(points: &[i32], n: usize, v: i64) -> Found
     requires { ⌜ 2 * n ≤ length (now points) ⌝ }
     ensures { λ r. ⌜ r ≡ highestOf (now (points .entry)) n v ⌝ }
 {
-    let mut i = n;
-    while i > 0 {
-        i -= 1;
-        let x = points[2 * i] as i64;
-        if x <= v {
+    let mut left = n;
+    while left > 0 {
+        let i = left - 1;
+        if x_of(points, i) <= v {
             return Found::At(i);
         }
+        left -= 1;
     }
     Found::Nothing
 }

@@ -1,6 +1,7 @@
 //! The timed events, and the plain 64-bit panel run on them.
 
 use std::hint::black_box;
+use std::ops::Range;
 
 use crate::analog::Drive;
 use crate::fast::Panel;
@@ -11,11 +12,19 @@ use crate::rng::Rng;
 use crate::table::{self, slot, Table, SLOTS};
 use crate::telegram;
 
+/// Positions all over the curve of `words`, and those on its last line, its twelfth and its first.
+/// With v = 1.23457 p - 250 and x = 900,000 j - 100,000 these lines begin at j = 22, 11 and 0.
+const WHOLE: Range<u64> = 0..1 << 24;
+const FAR_END: Range<u64> = 16_000_000..16_500_000;
+const MIDDLE: Range<u64> = 8_000_000..8_500_000;
+const NEAR_END: Range<u64> = 0..500_000;
+
 /// Events made beforehand and taken in turn.
 const RING: usize = 4_096;
 
-/// The kinds that are timed.
-pub const KINDS: [&str; 4] = ["telegrams", "levels", "ticks", "mixed"];
+/// The kinds that are timed; the last three are telegrams on one line of the curve.
+pub const KINDS: [&str; 7] =
+    ["telegrams", "levels", "ticks", "mixed", "far_end", "middle", "near_end"];
 
 /// Runs the events of an input through the 64-bit panel again and again; a sum over all answers.
 pub fn sum(input: &[u8], rounds: u64) -> u64 {
@@ -74,16 +83,23 @@ pub fn input(kind: &str, count: usize) -> Vec<u8> {
 /// The events of a kind, taken in turn, behind a telegram that starts the switching.
 fn events(table: &Table, kind: &str) -> Vec<Event> {
     let mut rng = Rng::new(1);
-    let first = telegram(&mut rng, table);
+    let positions = match kind {
+        "far_end" => FAR_END,
+        "middle" => MIDDLE,
+        "near_end" => NEAR_END,
+        _ => WHOLE,
+    };
+    let mut telegram = || telegram(&mut rng, table, &positions);
+    let first = telegram();
     let mut events = match kind {
-        "telegrams" => ring(|_| telegram(&mut rng, table)),
         "levels" => ring(levels),
         "ticks" => ring(tick),
-        _ => ring(|i| match i % 4 {
-            0 | 1 => telegram(&mut rng, table),
+        "mixed" => ring(|i| match i % 4 {
+            0 | 1 => telegram(),
             2 => levels(i / 4),
             _ => tick(i),
         }),
+        _ => ring(|_| telegram()),
     };
     events[0] = first;
     events
@@ -101,9 +117,9 @@ fn ring(make: impl FnMut(usize) -> Event) -> Vec<Event> {
     (0..RING).map(make).collect()
 }
 
-/// A Gray telegram anywhere on the curve.
-fn telegram(rng: &mut Rng, table: &Table) -> Event {
-    let position = rng.below(1 << 24);
+/// A Gray telegram of a position in a range.
+fn telegram(rng: &mut Rng, table: &Table, positions: &Range<u64>) -> Event {
+    let position = positions.start + rng.below(positions.end - positions.start);
     Event::Telegram(telegram::build(table, position, false).unwrap())
 }
 

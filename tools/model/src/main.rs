@@ -20,7 +20,7 @@ const USAGE: &str = "usage:
   model record sessions SEED COUNT DIR
   model check ..                   (as record: whether the files are those of the seed)
   model step ROUNDS < input        (a sum over all answers)
-  model events KIND N > input      (telegrams, levels, ticks or mixed)
+  model events KIND N > input      (telegrams, levels, ticks, mixed, far_end, middle or near_end)
   model serve ROUNDS < input       (a sum over all replies)
   model frames KIND N > input      (read, write or mixed)";
 

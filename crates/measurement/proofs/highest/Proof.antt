@@ -1,16 +1,15 @@
--- `measurement::highest` meets its contract. The loop's invariant: the search among the first i points finds what the search among all n does.
--- The measure is how many points are left.
-use borrow.Author.Needs.{needs}
+-- `measurement::highest` meets its contract. The loop's invariant: the search among the points that are left finds what the search among all n does.
+-- The measure is how many are left. K3 in the proof: at first all n are left (`loop-holds`), and each turn looks at the last one left (`last-looked-at`).
 use mathlib.Core.Bool.{cond}
 use mathlib.Core.Path.{_≡_, refl, sym, _∙_}
 use Prim.Native.Nat.{_≤_, _-_}
 use native.Mathlib.Omega.{arith}
 use lib.IntN.{ℤ}
 use lib.Signed.{leZ}
-use mir.Syntax.{w32, w64}
+use mir.Syntax.{w64}
 use mir.Val.{toZ}
 use mir.Facts.{toZ-ofZ}
-use Rattle.integers.specs.IntLaws.{bk, fits-of, fit-at, back-at}
+use Rattle.integers.specs.IntLaws.{bk, back-at}
 use Rattle.measurement.specs.Curve.{pointAt, highestOf}
 use Rattle.measurement.specs.SearchLaws.{last-first}
 use Rattle.measurement.specs.declared.Found.the-variants.{At}
@@ -18,10 +17,10 @@ use Rattle.measurement.proofs.highest.Statement.{statement}
 use Rattle.measurement.proofs.highest.Tie as tie
 
 abbrev Inv-loop : tie.InvT-loop
-Inv-loop points n v i₀ i = (i ≤ n) × (highestOf points i (toZ w64 v) ≡ highestOf points n (toZ w64 v))
+Inv-loop points n v left₀ left = (left ≤ n) × (highestOf points left (toZ w64 v) ≡ highestOf points n (toZ w64 v))
 
 abbrev μ-loop : tie.MeasureT-loop
-μ-loop points n v i₀ i = i
+μ-loop points n v left₀ left = left
 
 loop-holds : tie.Need-loop-holds Inv-loop μ-loop
 loop-holds c = (omega arith, refl)
@@ -29,36 +28,32 @@ loop-holds c = (omega arith, refl)
 sub-i : tie.Need-sub-i Inv-loop μ-loop
 sub-i c = omega arith
 
-mul-x : tie.Need-mul-x Inv-loop μ-loop
-mul-x c = omega arith
+x-of-requires : tie.Need-x-of-requires Inv-loop μ-loop
+x-of-requires c κs = omega arith
 
-mul-x-2 : tie.Need-mul-x-2 Inv-loop μ-loop
-mul-x-2 c = search needs
+-- the x that the code tests is that of the last point left
+last-looked-at : (c : tie.After-x-of Inv-loop μ-loop) →
+    c .x-of .result ≡ pointAt (c .before .before .before .args .points .now) (c .before .before .loop .left - 1) .x
+last-looked-at c = c .x-of .ensures
 
-shared-slice-copy-out-x : tie.Need-shared-slice-copy-out-x Inv-loop μ-loop
-shared-slice-copy-out-x c = omega arith
-
--- the x of the last point that is left
-abbrev xAt : tie.After-x Inv-loop μ-loop → ℤ
-xAt c = pointAt (c .before .before .before .args .points .now) (c .before .before .loop .i - 1) .x
-
-cast-x : tie.Need-cast-x Inv-loop μ-loop
-cast-x c = fits-of w64 _ (omega (arith, fit-at w32 (xAt c) (c .x .given)))
-
--- the code's test is the definition's at that point
-turn : (c : tie.After-x Inv-loop μ-loop) →
-    let b = c .before .before in
-    let v = bk w64 (b .before .args .v) in
-    let ws = b .before .args .points .now in
-    cond (leZ (bk w64 (bk w32 (xAt c))) v) (At (b .loop .i - 1)) (highestOf ws (b .loop .i - 1) v) ≡ highestOf ws (b .before .args .n) v
+-- its test is the definition's
+turn : (c : tie.After-x-of Inv-loop μ-loop) →
+    let s = c .before .before .before in
+    let ws = s .args .points .now in
+    let left = c .before .before .loop .left in
+    let v = bk w64 (s .args .v) in
+    cond (leZ (bk w64 (c .x-of .result)) v) (At (left - 1)) (highestOf ws (left - 1) v) ≡ highestOf ws (s .args .n) v
 turn c =
     let l = c .before .before .loop in
-    rw (toZ-ofZ (cast-x c), back-at w32 (xAt c) (c .x .given)) (sym (last-first _ (l .i) _ (omega arith)) ∙ l .inv .1)
+    rw (back-at w64 (c .x-of .result) (c .x-of .ok), last-looked-at c) (sym (last-first _ (l .left) _ (omega arith)) ∙ l .inv .1)
 
 returns : tie.Need-returns Inv-loop μ-loop
 returns c =
     let e = rw (c .if1 .taken) at (turn (c .before)) in
     rw (toZ-ofZ (c .before .before .before .before .fits .v)) at e
+
+sub-left : tie.Need-sub-left Inv-loop μ-loop
+sub-left c = omega arith
 
 loop-less : tie.Need-loop-less Inv-loop μ-loop
 loop-less c = omega arith
@@ -70,7 +65,7 @@ returns-2 : tie.Need-returns-2 Inv-loop μ-loop
 unfolding highestOf
 returns-2 c =
     let l = c .before .loop in
-    let e : l .i ≡ 0 = omega arith in
+    let e : l .left ≡ 0 = omega arith in
     let z = rw e at (l .inv .1) in
     rw (toZ-ofZ (c .before .before .fits .v)) at z
 
@@ -82,11 +77,9 @@ highest-spec =
     μ-loop
     loop-holds
     sub-i
-    mul-x
-    mul-x-2
-    shared-slice-copy-out-x
-    cast-x
+    x-of-requires
     returns
+    sub-left
     loop-less
     loop-again
     returns-2)
