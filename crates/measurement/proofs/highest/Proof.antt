@@ -1,6 +1,6 @@
 -- `measurement::highest` meets its contract. The loop's invariant: the search among the points that are left finds what the search among all n does.
 -- The measure is how many are left. K3 in the proof: at first all n are left (`loop-holds`), and each turn looks at the last one left (`last-looked-at`).
-use mathlib.Core.Bool.{cond}
+use mathlib.Core.Bool.{true, false, cond}
 use mathlib.Core.Path.{_≡_, refl, sym, _∙_}
 use Prim.Native.Nat.{_≤_, _-_}
 use native.Mathlib.Omega.{arith}
@@ -31,25 +31,33 @@ sub-i c = omega arith
 x-of-requires : tie.Need-x-of-requires Inv-loop μ-loop
 x-of-requires c κs = omega arith
 
--- the x that the code tests is that of the last point left
-last-looked-at : (c : tie.After-x-of Inv-loop μ-loop) →
-    c .x-of .result ≡ pointAt (c .before .before .before .args .points .now) (c .before .before .loop .left - 1) .x
-last-looked-at c = c .x-of .ensures
+-- the x of the last point left
+abbrev lastX : tie.In-loop Inv-loop μ-loop → ℤ
+lastX c = pointAt (c .before .before .args .points .now) (c .before .loop .left - 1) .x
 
--- its test is the definition's
-turn : (c : tie.After-x-of Inv-loop μ-loop) →
-    let s = c .before .before .before in
+-- the turn looks at that point
+last-looked-at : (c : tie.After-x-of Inv-loop μ-loop) → bk w64 (c .x-of .result) ≡ lastX (c .before)
+last-looked-at c = back-at w64 (c .x-of .result) (c .x-of .ok) ∙ c .x-of .ensures
+
+-- a point that is passed by is above v, and one that is found is not
+passed : (c : tie.Else1 Inv-loop μ-loop) → leZ (lastX (c .before .before)) (bk w64 (c .before .before .before .before .args .v)) ≡ false
+passed c = rw (last-looked-at (c .before)) at (c .if1 .left)
+
+fitting : (c : tie.Then1 Inv-loop μ-loop) → leZ (lastX (c .before .before)) (bk w64 (c .before .before .before .before .args .v)) ≡ true
+fitting c = rw (last-looked-at (c .before)) at (c .if1 .taken)
+
+-- the search among the points that are left looks at it first
+turn : (c : tie.In-loop Inv-loop μ-loop) →
+    let s = c .before .before in
     let ws = s .args .points .now in
-    let left = c .before .before .loop .left in
+    let left = c .before .loop .left in
     let v = bk w64 (s .args .v) in
-    cond (leZ (bk w64 (c .x-of .result)) v) (At (left - 1)) (highestOf ws (left - 1) v) ≡ highestOf ws (s .args .n) v
-turn c =
-    let l = c .before .before .loop in
-    rw (back-at w64 (c .x-of .result) (c .x-of .ok), last-looked-at c) (sym (last-first _ (l .left) _ (omega arith)) ∙ l .inv .1)
+    cond (leZ (lastX c) v) (At (left - 1)) (highestOf ws (left - 1) v) ≡ highestOf ws (s .args .n) v
+turn c = let l = c .before .loop in sym (last-first _ (l .left) _ (omega arith)) ∙ l .inv .1
 
 returns : tie.Need-returns Inv-loop μ-loop
 returns c =
-    let e = rw (c .if1 .taken) at (turn (c .before)) in
+    let e = rw (fitting c) at (turn (c .before .before)) in
     rw (toZ-ofZ (c .before .before .before .before .fits .v)) at e
 
 sub-left : tie.Need-sub-left Inv-loop μ-loop
@@ -59,7 +67,7 @@ loop-less : tie.Need-loop-less Inv-loop μ-loop
 loop-less c = omega arith
 
 loop-again : tie.Need-loop-again Inv-loop μ-loop
-loop-again c = (omega arith, rw (c .if1 .left) at (turn (c .before)))
+loop-again c = (omega arith, rw (passed c) at (turn (c .before .before)))
 
 returns-2 : tie.Need-returns-2 Inv-loop μ-loop
 unfolding highestOf
