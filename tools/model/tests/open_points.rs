@@ -4,6 +4,7 @@ mod common;
 
 use common::*;
 use model::analog::Drive;
+use model::measure::linearized;
 use model::panel::{self, Extremes};
 
 /// N = H = 32, so that errors 1 and 12 can be reached.
@@ -11,6 +12,26 @@ const WIDE: [(usize, i32); 2] = [(0, 32), (3, 32)];
 
 fn wide(slots: &[(usize, i32)]) -> model::table::Table {
     table(&[&WIDE, slots].concat())
+}
+
+// From telegram to result
+
+/// 24 points (100 j, 10 j²) from j = 0 on, the first of them in use.
+fn long_curve(used: i32) -> model::table::Table {
+    let points =
+        (0..24).flat_map(|j| [(56 + 2 * j, 100 * j as i32), (57 + 2 * j, 10 * (j * j) as i32)]);
+    table(&[(13, 2), (55, used)].into_iter().chain(points).collect::<Vec<_>>())
+}
+
+#[test]
+fn highest_used_point_at_most_v() {
+    let all = long_curve(24);
+    let values = [2_400, 2_300, 2_250, 1_150, 50, -50].map(|v| linearized(&all, v));
+    assert_eq!(values, [5_290, 5_290, 5_065, 1_325, 5, 0]);
+    // Those behind the twelfth lie at or below 2,250 and do not count.
+    let twelve = long_curve(12);
+    let values = [2_250, 1_100, 1_050, 50].map(|v| linearized(&twelve, v));
+    assert_eq!(values, [1_210, 1_210, 1_105, 5]);
 }
 
 // Events and inputs

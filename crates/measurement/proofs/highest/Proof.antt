@@ -1,6 +1,6 @@
 -- `measurement::highest` meets its contract. The loop's invariant: the search among the points that are left finds what the search among all n does.
 -- The measure is how many are left. K3 in the proof: at first all n are left (`loop-holds`), and each turn looks at the last one left (`last-looked-at`).
-use mathlib.Core.Bool.{true, false, cond}
+use mathlib.Core.Bool.{Bool, true, false, cond}
 use mathlib.Core.Path.{_≡_, refl, sym, _∙_}
 use Prim.Native.Nat.{_≤_, _-_}
 use native.Mathlib.Omega.{arith}
@@ -39,11 +39,14 @@ lastX c = pointAt (c .before .before .args .points .now) (c .before .loop .left 
 last-looked-at : (c : tie.After-x-of Inv-loop μ-loop) → bk w64 (c .x-of .result) ≡ lastX (c .before)
 last-looked-at c = back-at w64 (c .x-of .result) (c .x-of .ok) ∙ c .x-of .ensures
 
--- a point that is passed by is above v, and one that is found is not
-passed : (c : tie.Else1 Inv-loop μ-loop) → leZ (lastX (c .before .before)) (bk w64 (c .before .before .before .before .args .v)) ≡ false
+-- it is at most v: the definition's test, and the code's
+abbrev lastFits : tie.In-loop Inv-loop μ-loop → Bool
+lastFits c = leZ (lastX c) (bk w64 (c .before .before .args .v))
+
+passed : (c : tie.Else1 Inv-loop μ-loop) → lastFits (c .before .before) ≡ false
 passed c = rw (last-looked-at (c .before)) at (c .if1 .left)
 
-fitting : (c : tie.Then1 Inv-loop μ-loop) → leZ (lastX (c .before .before)) (bk w64 (c .before .before .before .before .args .v)) ≡ true
+fitting : (c : tie.Then1 Inv-loop μ-loop) → lastFits (c .before .before) ≡ true
 fitting c = rw (last-looked-at (c .before)) at (c .if1 .taken)
 
 -- the search among the points that are left looks at it first
@@ -52,7 +55,7 @@ turn : (c : tie.In-loop Inv-loop μ-loop) →
     let ws = s .args .points .now in
     let left = c .before .loop .left in
     let v = bk w64 (s .args .v) in
-    cond (leZ (lastX c) v) (At (left - 1)) (highestOf ws (left - 1) v) ≡ highestOf ws (s .args .n) v
+    cond (lastFits c) (At (left - 1)) (highestOf ws (left - 1) v) ≡ highestOf ws (s .args .n) v
 turn c = let l = c .before .loop in sym (last-first _ (l .left) _ (omega arith)) ∙ l .inv .1
 
 returns : tie.Need-returns Inv-loop μ-loop
