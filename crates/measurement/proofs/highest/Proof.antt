@@ -39,7 +39,7 @@ lastX c = pointAt (c .before .before .args .points .now) (c .before .loop .left 
 last-looked-at : (c : tie.After-x-of Inv-loop μ-loop) → bk w64 (c .x-of .result) ≡ lastX (c .before)
 last-looked-at c = back-at w64 (c .x-of .result) (c .x-of .ok) ∙ c .x-of .ensures
 
--- it is at most v: the definition's test, and the code's
+-- whether it is at most v, by the definition, and what the code's test says of it
 abbrev lastFits : tie.In-loop Inv-loop μ-loop → Bool
 lastFits c = leZ (lastX c) (bk w64 (c .before .before .args .v))
 

@@ -1,6 +1,5 @@
 -- `measurement::x_of` meets its contract: the word at 2i, cast to 64 bits, is the point's x.
 use borrow.Author.Needs.{needs}
-use lib.IntN.{ℤ}
 use mir.Syntax.{w32}
 use mir.Val.{SFits}
 use mir.Facts.{toZ-ofZ, sfits-widen}
@@ -18,7 +17,7 @@ mul-result-2 c = search needs
 shared-slice-copy-out-result : tie.Need-shared-slice-copy-out-result
 shared-slice-copy-out-result c = search needs
 
--- every word of the points fits 32 bits
+-- the word that is read fits 32 bits
 fits : (c : tie.After-result) → SFits w32 (pointAt (c .before .args .points .now) (c .before .args .i) .x)
 fits c = record { sfits = c .result .given }
 
