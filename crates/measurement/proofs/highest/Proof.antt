@@ -1,5 +1,5 @@
 -- `measurement::highest` meets its contract. The loop's invariant: the search among the points that are left finds what the search among all n does.
--- The measure is how many are left. K3 in the proof: at first all n are left (`loop-holds`), and each turn looks at the last one left (`last-looked-at`).
+-- The measure is how many are left. K3 in the proof: at first all n are left (`loop-holds`), and the point looked at is the last one left (`last-looked-at`).
 use mathlib.Core.Bool.{Bool, true, false, cond}
 use mathlib.Core.Path.{_≡_, refl, sym, _∙_}
 use Prim.Native.Nat.{_≤_, _-_}
@@ -35,7 +35,7 @@ x-of-requires c κs = omega arith
 abbrev lastX : tie.In-loop Inv-loop μ-loop → ℤ
 lastX c = pointAt (c .before .before .args .points .now) (c .before .loop .left - 1) .x
 
--- the turn looks at that point
+-- the point looked at is that one
 last-looked-at : (c : tie.After-x-of Inv-loop μ-loop) → bk w64 (c .x-of .result) ≡ lastX (c .before)
 last-looked-at c = back-at w64 (c .x-of .result) (c .x-of .ok) ∙ c .x-of .ensures
 
@@ -50,17 +50,17 @@ fitting : (c : tie.Then1 Inv-loop μ-loop) → lastFits (c .before .before) ≡ 
 fitting c = rw (last-looked-at (c .before)) at (c .if1 .taken)
 
 -- the search among the points that are left looks at it first
-turn : (c : tie.In-loop Inv-loop μ-loop) →
+first-look : (c : tie.In-loop Inv-loop μ-loop) →
     let s = c .before .before in
     let ws = s .args .points .now in
     let left = c .before .loop .left in
     let v = bk w64 (s .args .v) in
     cond (lastFits c) (At (left - 1)) (highestOf ws (left - 1) v) ≡ highestOf ws (s .args .n) v
-turn c = let l = c .before .loop in sym (last-first _ (l .left) _ (omega arith)) ∙ l .inv .1
+first-look c = let l = c .before .loop in sym (last-first _ (l .left) _ (omega arith)) ∙ l .inv .1
 
 returns : tie.Need-returns Inv-loop μ-loop
 returns c =
-    let e = rw (fitting c) at (turn (c .before .before)) in
+    let e = rw (fitting c) at (first-look (c .before .before)) in
     rw (toZ-ofZ (c .before .before .before .before .fits .v)) at e
 
 sub-left : tie.Need-sub-left Inv-loop μ-loop
@@ -70,7 +70,7 @@ loop-less : tie.Need-loop-less Inv-loop μ-loop
 loop-less c = omega arith
 
 loop-again : tie.Need-loop-again Inv-loop μ-loop
-loop-again c = (omega arith, rw (passed c) at (turn (c .before .before)))
+loop-again c = (omega arith, rw (passed c) at (first-look (c .before .before)))
 
 returns-2 : tie.Need-returns-2 Inv-loop μ-loop
 unfolding highestOf
