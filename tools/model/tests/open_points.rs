@@ -16,7 +16,7 @@ fn wide(slots: &[(usize, i32)]) -> model::table::Table {
 
 // From telegram to result
 
-/// 24 points (100 j, 10 j²) from j = 0 on, the first of them in use.
+/// 24 points (100 j, 10 j²) from j = 0 on, of which the first `used` are in use.
 fn long_curve(used: i32) -> model::table::Table {
     let points =
         (0..24).flat_map(|j| [(56 + 2 * j, 100 * j as i32), (57 + 2 * j, 10 * (j * j) as i32)]);
