@@ -10,5 +10,6 @@ pub mod TestLaws
 pub mod IntLaws
 pub mod RingLaws
 pub mod RoundLaws
+pub mod OrderLaws
 pub mod FloorLaws
 pub mod TwosComplementLaws

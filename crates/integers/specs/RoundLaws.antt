@@ -1,4 +1,4 @@
--- The laws of `roundDiv`: halves away from zero, nearest, odd, monotone, only. Assumes nothing.
+-- The laws of `roundDiv`: monotone, halves away from zero, nearest, odd, only. Assumes nothing.
 use Prim.Native.Nat.{ℕ, zero, suc, _+_, _-_, _*_, _/_, _%_, _≤_, _<_}
 use mathlib.Core.Path.{_≡_, refl, sym, ap, _∙_}
 use native.Mathlib.Omega.{arith}
@@ -68,6 +68,19 @@ offE a d q = var (pos 2) ⊗ (var d ⊗ q ⊖ var a)
 
 -- ---- the laws
 
+-- it keeps the order
+pub round-mono : (a b d : ℤ) → a ≤ℤ b → roundDiv a d ≤ℤ roundDiv b d
+unfolding roundDiv
+round-mono a b (negsuc d) h = omega (arith, ints)
+round-mono (pos a) (pos b) (pos d) h =
+    let l : a ≤ b = omega (arith, ints) in
+    omega (arith, ints, near-mono a b d l)
+round-mono (pos a) (negsuc b) (pos d) h = absurd (omega (arith, ints))
+round-mono (negsuc a) (pos b) (pos d) h = omega (arith, ints, neg-P (pos (near (suc a) d)), neg-N (pos (near (suc a) d)))
+round-mono (negsuc a) (negsuc b) (pos d) h =
+    let l : suc b ≤ suc a = omega (arith, ints) in
+    omega (arith, ints, near-mono (suc b) (suc a) d l, neg-P (pos (near (suc a) d)), neg-N (pos (near (suc a) d)), neg-P (pos (near (suc b) d)), neg-N (pos (near (suc b) d)))
+
 -- where a / d is q and a half it is q + 1, and of the negative −(q + 1)
 half : (a d q : ℕ) → 0 < d → 2 * a ≡ (2 * q + 1) * d → near a d ≡ suc q
 half a d q h e = sym (near-is a d (suc q) h (omega arith) (omega arith))
@@ -110,19 +123,6 @@ round-neg a (negsuc d) = refl
 round-neg (pos zero) (pos d) = ap pos (near-zero d) ∙ sym (ap (λ (k : ℕ). negℤ (pos k)) (near-zero d))
 round-neg (pos (suc a)) (pos d) = refl
 round-neg (negsuc a) (pos d) = sym (negℤ-negℤ (pos (near (suc a) d)))
-
--- it keeps the order
-pub round-mono : (a b d : ℤ) → a ≤ℤ b → roundDiv a d ≤ℤ roundDiv b d
-unfolding roundDiv
-round-mono a b (negsuc d) h = omega (arith, ints)
-round-mono (pos a) (pos b) (pos d) h =
-    let l : a ≤ b = omega (arith, ints) in
-    omega (arith, ints, near-mono a b d l)
-round-mono (pos a) (negsuc b) (pos d) h = absurd (omega (arith, ints))
-round-mono (negsuc a) (pos b) (pos d) h = omega (arith, ints, neg-P (pos (near (suc a) d)), neg-N (pos (near (suc a) d)))
-round-mono (negsuc a) (negsuc b) (pos d) h =
-    let l : suc b ≤ suc a = omega (arith, ints) in
-    omega (arith, ints, near-mono (suc b) (suc a) d l, neg-P (pos (near (suc a) d)), neg-N (pos (near (suc a) d)), neg-P (pos (near (suc b) d)), neg-N (pos (near (suc b) d)))
 
 strict : (a d q x : ℕ) → 0 < d → x ≤ d → 2 * a ≤ x + 2 * (q * d) → (x ≡ d → a ≤ q * d) → 2 * a < 2 * (q * d) + d
 strict a d q x hd h k f = go (decLe d x)

@@ -47,9 +47,13 @@ asksReset t b l i = actsOn (inputAt t i .config) (highAt (b .levels) i) (highAt 
 unfoldable pub bookRefusal : List ℤ → Book → ℕ
 bookRefusal t b = resetRefusal (b .seen) (cond (errorReported (layoutOf t) (b .telegram)) 3 0) (directedAt t (b .telegram))
 
--- "unless 13 or 12 holds for its telegram, sets O to that telegram's p after direction"
+-- "unless 13 or 12 holds for its telegram": the input's reset is carried out
+abbrev pub resets : List ℤ → Book → ℕ → ℕ → Bool
+resets t b l i = asksReset t b l i && eqb (bookRefusal t b) 0
+
+-- and then it "sets O to that telegram's p after direction"
 unfoldable pub bookInput : List ℤ → ℕ → ℕ → Book → Book
-bookInput t l i b = cond (asksReset t b l i && eqb (bookRefusal t b) 0) (movesTo b (pos (directedAt t (b .telegram)))) b
+bookInput t l i b = cond (resets t b l i) (movesTo b (pos (directedAt t (b .telegram)))) b
 
 -- ---- events
 

@@ -69,7 +69,7 @@ module _ {t : List ℤ} (v : Valid t) where
   unfolding pointsOf
   point-x j = getD-drop 56 t (2 * j) (pos 0)
 
-  point-y : (j : ℕ) → pointAt (pointsOf t) j .y ≡ slot.pointY t j
+  pub point-y : (j : ℕ) → pointAt (pointsOf t) j .y ≡ slot.pointY t j
   unfolding pointsOf
   point-y j = getD-drop 56 t (2 * j + 1) (pos 0) ∙ ap (slot.wordAt t) (omega arith)
 

@@ -3,9 +3,11 @@
 use std::fmt;
 
 use crate::differ::Counts;
+use crate::measure;
 use crate::panel::{self, Event};
 use crate::panelrun::{self, End, Step};
 use crate::table::{Action, Format, Table};
+use crate::telegram;
 
 /// Counts over one run or many.
 #[derive(Clone, Debug, Default)]
@@ -39,6 +41,11 @@ pub struct Coverage {
     pub curves: [u64; 3],
     pub reverse: u64,
     pub round_loop: u64,
+    /// K14: telegrams that move on without error under a table that goes forward, by linearization;
+    /// those that run back all the same; those that run back under another table.
+    pub moved_on: [u64; 3],
+    pub ran_back: u64,
+    pub ran_back_otherwise: u64,
     /// Codes by analog format, and those within the limits.
     pub analog: [u64; 3],
     pub analog_within: [u64; 3],
@@ -75,6 +82,7 @@ impl Coverage {
         self.see_actions(step);
         self.see_switches(step);
         self.see_setup(step);
+        self.see_moves(step);
     }
 
     fn see_freeze(&mut self, step: &Step) {
@@ -143,6 +151,19 @@ impl Coverage {
         self.shared += u64::from(shares_output(table));
     }
 
+    fn see_moves(&mut self, step: &Step) {
+        if !moves_on(step) {
+            return;
+        }
+        let back = u64::from(step.after.result < step.before.result);
+        if measure::goes_forward(step.table) {
+            self.moved_on[step.table.linearization as usize] += 1;
+            self.ran_back += back;
+        } else {
+            self.ran_back_otherwise += back;
+        }
+    }
+
     /// Every count with its name.
     fn counters(&mut self) -> Vec<(String, &mut u64)> {
         let mut list: Vec<(String, &mut u64)> = vec![
@@ -171,6 +192,11 @@ impl Coverage {
         list.extend([
             ("telegrams in reverse".into(), &mut self.reverse),
             ("telegrams with round loop".into(), &mut self.round_loop),
+        ]);
+        name_all(&mut list, "moved on, linearization", &mut self.moved_on);
+        list.extend([
+            ("ran back, table forward".into(), &mut self.ran_back),
+            ("ran back, table not forward".into(), &mut self.ran_back_otherwise),
         ]);
         name_all(&mut list, "codes of analog format", &mut self.analog);
         name_all(&mut list, "codes within limits, format", &mut self.analog_within);
@@ -221,6 +247,17 @@ fn action_number(action: Action) -> usize {
         Action::ClearExtremes => 4,
         Action::Teach(k) => 5 + k,
     }
+}
+
+/// A telegram at or past the position of the one accepted last, both without error. The result
+/// before it has the offset in force: a reset works it out again.
+fn moves_on(step: &Step) -> bool {
+    let (Some(last), Event::Telegram(word)) = (step.before.telegram, step.event) else {
+        return false;
+    };
+    let [last, now] = [last, word].map(|word| telegram::read(step.table, word));
+    let clean = step.before.error == 0 && step.after.error == 0;
+    clean && now.is_some_and(|now| last.is_some_and(|last| last.position <= now.position))
 }
 
 /// Two preselections aim at one output.

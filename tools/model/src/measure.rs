@@ -24,6 +24,13 @@ pub fn measure(table: &Table, offset: i64, reading: Reading) -> Measured {
     }
 }
 
+/// K14: direction forward, no round loop, and used y that never fall, unless linearization is off.
+pub fn goes_forward(table: &Table) -> bool {
+    let straight = table.linearization == Linearization::Off;
+    let never_falls = table.points.windows(2).all(|pair| pair[0].y <= pair[1].y);
+    !table.reverse && table.round_loop == 0 && (straight || never_falls)
+}
+
 /// Step 1: p after direction.
 pub fn directed(table: &Table, position: i64) -> i64 {
     if table.reverse {
