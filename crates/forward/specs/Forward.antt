@@ -1,7 +1,7 @@
 -- FORWARD MEANS FORWARD, stated. In a setter's words: slot 6 says forward, slot 7 no round loop, and from each control point in use to the next my y never falls
 -- (with linearization off nobody asks for the points). Then digits never run back while the carriage moves on: whatever happens between two telegrams, if
 -- nobody resets and neither shows an error, the one at the greater position never gives the smaller result.
--- Request K14. This file is definitions only; `readings`, `moments` and `telegrams` of ForwardLaws prove it, and Cases shows that every condition is needed.
+-- Request K14. This file is definitions only; `readings`, `runs` and `telegrams` of ForwardLaws prove it, and Cases shows that every condition is needed.
 use mathlib.Core.Path.{_≡_}
 use mathlib.Core.Bool.{Bool, false, not, _&&_, _||_}
 use mathlib.Core.List.{List, [], _∷_, _++_}
@@ -52,7 +52,15 @@ abbrev pub ForwardReadings : Type 0
 ForwardReadings = (t : List ℤ) → Forward t → (w w′ : ℕ) → positionAt t w ≤ positionAt t w′ →
     readingAt t w .error ≡ Error.None → readingAt t w′ .error ≡ Error.None → readingAt t w .result ≤ℤ readingAt t w′ .result
 
--- ---- of a run: between resets the offset stays
+-- ---- of runs: two runs of one table, or two moments of one run, at equal offset by the book
+
+-- the results last answered stand as the positions of the telegrams last accepted
+abbrev pub ForwardRuns : Type 0
+ForwardRuns = (t : List ℤ) → Forward t → (es es′ : List Event) → T (bookOf t es .seen) → T (bookOf t es′ .seen) → bookOf t es .offset ≡ bookOf t es′ .offset →
+    positionAt t (bookOf t es .telegram) ≤ positionAt t (bookOf t es′ .telegram) →
+    lastAnswer t es .error ≡ Error.None → lastAnswer t es′ .error ≡ Error.None → lastAnswer t es .result ≤ℤ lastAnswer t es′ .result
+
+-- ---- of two telegrams of one run between resets
 
 -- an event carries a reset out: one of the three inputs does, by the book
 unfoldable pub resetBy : List ℤ → Book → Event → Bool
@@ -65,17 +73,11 @@ unfoldable pub resetIn : List ℤ → Book → List Event → Bool
 resetIn t b [] = false
 resetIn t b (e ∷ es) = resetBy t b e || resetIn t (bookStep t b e) es
 
--- of two moments: after some events, and after more of them without a reset, the results last answered stand as the positions of the telegrams last accepted
-abbrev pub ForwardMoments : Type 0
-ForwardMoments = (t : List ℤ) → Forward t → (es more : List Event) → T (bookOf t es .seen) → resetIn t (bookOf t es) more ≡ false →
-    positionAt t (bookOf t es .telegram) ≤ positionAt t (bookOf t (es ++ more) .telegram) →
-    lastAnswer t es .error ≡ Error.None → lastAnswer t (es ++ more) .error ≡ Error.None → lastAnswer t es .result ≤ℤ lastAnswer t (es ++ more) .result
-
--- of two telegrams: the events before the first and it, and those between and the second
+-- some events and a telegram behind them
 abbrev pub upTo : List Event → ℕ → List Event
 upTo es w = es ++ (Telegram w ∷ [])
 
--- both accepted, and no reset between them
+-- both are accepted, and no event between them carries a reset out
 abbrev pub ForwardTelegrams : Type 0
 ForwardTelegrams = (t : List ℤ) → Forward t → (es between : List Event) (w w′ : ℕ) → T (acceptsOf t w) → T (acceptsOf t w′) → resetIn t (bookOf t (upTo es w)) between ≡ false →
     positionAt t w ≤ positionAt t w′ → lastAnswer t (upTo es w) .error ≡ Error.None → lastAnswer t (upTo es w ++ upTo between w′) .error ≡ Error.None →

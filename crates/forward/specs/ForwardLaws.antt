@@ -1,6 +1,6 @@
 -- FORWARD MEANS FORWARD, proved. Each step from position to result keeps the order of what it is given: the distance, the scaling with its rounding, the curve, the
 -- rounding of its value; and so does their chain. One argument for the three modes of linearization: which one it is matters to the curve alone (RisingLaws).
--- Between resets a run has one offset, and so reads as one table. Request K14. Assumes nothing.
+-- Runs at equal offset read as under one table, and between resets a run keeps its offset. Request K14. Assumes nothing.
 use mathlib.Core.Path.{_≡_, refl, sym, ap, subst, _∙_}
 use mathlib.Core.Bool.{Bool, true, false, not}
 use mathlib.Core.List.{List, [], _∷_, _++_}
@@ -53,7 +53,7 @@ use Rattle.runs.specs.Demand3Laws.{good-run, kept-run}
 use Rattle.runs.specs.KeptLaws.{Kept, kept-fresh}
 use Rattle.runs.specs.Run.{runOf, lastAnswer}
 use Rattle.runs.specs.RunLaws.{answer-own, last-own, last-state, own-result, own-error}
-use Rattle.forward.specs.Forward.{fallsAfter, yFalls, Forward, positionAt, readingAt, ForwardReadings, resetBy, resetIn, ForwardMoments, upTo, ForwardTelegrams}
+use Rattle.forward.specs.Forward.{fallsAfter, yFalls, Forward, positionAt, readingAt, ForwardReadings, ForwardRuns, resetBy, resetIn, upTo, ForwardTelegrams}
 use Rattle.forward.specs.RisingLaws.{neverFallsFrom, NeverFalls, curve-rises}
 
 -- ---- the chain from position to value: each step keeps the order
@@ -76,7 +76,7 @@ linearized-mono m ps o f v v′ h =
     (curve-rises m ps o f (whole v) (whole v′) one one (le (var v ⊗ lit 1) (var v′ ⊗ lit 1) (omega (arith, ints))))
 
 module _ (s : Scaling) (ws : List ℤ) (no-loop : s .«round_loop» ≡ 0) (o : Ordered (s .linearization) (usedPoints s ws)) (f : NeverFalls (s .linearization) (usedPoints s ws)) where
-  value-mono : (p p′ : ℕ) → p ≤ p′ → valueOf s ws p ≤ℤ valueOf s ws p′
+  pub value-mono : (p p′ : ℕ) → p ≤ p′ → valueOf s ws p ≤ℤ valueOf s ws p′
   unfolding valueOf
   value-mono p p′ h =
       linearized-mono (s .linearization) (usedPoints s ws) o f _ _
@@ -142,43 +142,6 @@ then-falls t e d l w w′ h k k′ back = go (yFalls t) refl
         let on = readings t (record { loads = e; forward = d; no-loop = l; never-falls = y }) w w′ h k k′ in
         absurd (omega (arith, ints))
 
--- ---- between resets the book keeps its offset, and stays one with a telegram
-
-record Still (b b′ : Book) : Type 0 where
-  seen : T (b .seen) → T (b′ .seen)
-  offset : b′ .offset ≡ b .offset
-
-input-still : (t : List ℤ) (l i : ℕ) (b : Book) → resets t b l i ≡ false → bookInput t l i b ≡ b
-unfolding bookInput
-input-still t l i b e = rw e
-
-inputs-still : (t : List ℤ) (l : ℕ) (b : Book) → some 3 (resets t b l) ≡ false → bookInput t l 2 (bookInput t l 1 (bookInput t l 0 b)) ≡ b
-inputs-still t l b n =
-    let none : (i : ℕ) → i < 3 → bookInput t l i b ≡ b = λ i h. input-still t l i b (some-none (resets t b l) 3 i n h) in
-    rw (none 0 (omega arith), none 1 (omega arith), none 2 (omega arith))
-
-step-still : (t : List ℤ) (b : Book) (e : Event) → resetBy t b e ≡ false → Still b (bookStep t b e)
-unfolding resetBy bookStep
-step-still t b (Telegram w) n = by-test (acceptsOf t w) (takes b w) b (Still b) (λ _. record { seen = λ _. tt; offset = refl }) (λ _. record { seen = λ y. y; offset = refl })
-step-still t b (Levels l) n = by-test (leb l 7) _ b (Still b)
-    (λ y. rw (inputs-still t l b (and-second (leb l 7) (some 3 (resets t b l)) n (is-true (leb l 7) y))) (record { seen = λ y. y; offset = refl }))
-    (λ _. record { seen = λ y. y; offset = refl })
-step-still t b (Tick ms) n = record { seen = λ y. y; offset = refl }
-
-run-still : (t : List ℤ) (b : Book) (es : List Event) → resetIn t b es ≡ false → Still b (bookFrom t b es)
-unfolding resetIn bookFrom
-run-still t b [] n = record { seen = λ y. y; offset = refl }
-run-still t b (e ∷ es) n =
-    let n₁ = or-both (resetBy t b e) (resetIn t (bookStep t b e) es) n in
-    let s = step-still t b e (n₁ .0) in
-    let r = run-still t (bookStep t b e) es (n₁ .1) in
-    record { seen = λ y. r .seen (s .seen y); offset = r .offset ∙ s .offset }
-
-book-append : (t : List ℤ) (b : Book) (es fs : List Event) → bookFrom t b (es ++ fs) ≡ bookFrom t (bookFrom t b es) fs
-unfolding bookFrom
-book-append t b [] fs = refl
-book-append t b (e ∷ es) fs = book-append t (bookStep t b e) es fs
-
 -- ---- a table with another offset and other preselections goes forward as well
 
 module _ {s t : List ℤ} (a : Alike storedSlot s t) (valid : Valid s) (f : Forward t) where
@@ -202,9 +165,9 @@ module _ {s t : List ℤ} (a : Alike storedSlot s t) (valid : Valid s) (f : Forw
         never-falls = falls-alike ∙ f .never-falls;
       }
 
--- ---- of a run
+-- ---- of runs
 
--- what it last answered is the reading of the book's telegram, under any table that has the book's offset and is else the loaded one but for preselections
+-- what a run last answered is the reading of the book's telegram, under any table that has the book's offset and is else the loaded one but for preselections
 module _ {t : List ℤ} (v : Valid t) (es : List Event) where
   abbrev end : State
   end = runOf (freshOf t) es
@@ -232,13 +195,13 @@ module _ {t : List ℤ} (v : Valid t) (es : List Event) where
         let o = last-own (answerOf (freshOf t) 0) es (answer-own (freshOf t) 0) in
         rw (own-result o, own-error o, last-state (answerOf (freshOf t) 0) es, end-reading) (refl, refl)
 
--- both moments are read under the table in force at the first
-pub moments : ForwardMoments
-moments t f es more y none h k k′ =
+-- both are read under the table in force at the end of the first
+pub runs : ForwardRuns
+runs t f es es′ y y′ same h k k′ =
     let first = last-reading v es y valid alike (matches-end v es .offset) in
-    let second = last-reading v (es ++ more) (still .seen y) valid alike (matches-end v es .offset ∙ sym (still .offset)) in
+    let second = last-reading v es′ y′ valid alike (matches-end v es .offset ∙ same) in
     rw (first .0, second .0)
-    (readings s (forward-alike alike valid f) (bookOf t es .telegram) (bookOf t (es ++ more) .telegram)
+    (readings s (forward-alike alike valid f) (bookOf t es .telegram) (bookOf t es′ .telegram)
     (rw (layout-alike alike stored-layout) h) (sym (first .1) ∙ k) (sym (second .1) ∙ k′))
   where
     v : Valid t
@@ -253,22 +216,42 @@ moments t f es more y none h k k′ =
     alike : Alike storedSlot s t
     alike = kept-end v es .alike
 
-    still : Still (bookOf t es) (bookOf t (es ++ more))
-    still = rw (book-append t (freshBook t) es more) (run-still t (bookOf t es) more none)
+-- ---- of two telegrams: between resets the book keeps its offset
 
--- a telegram at the end of a list: the book has it, and it resets nothing
+inputs-still : (t : List ℤ) (l : ℕ) (b : Book) → some 3 (resets t b l) ≡ false → bookInput t l 2 (bookInput t l 1 (bookInput t l 0 b)) ≡ b
+unfolding bookInput
+inputs-still t l b n =
+    let none : (i : ℕ) → i < 3 → resets t b l i ≡ false = λ i h. some-none (resets t b l) 3 i n h in
+    rw (none 0 (omega arith), none 1 (omega arith), none 2 (omega arith))
+
+step-still : (t : List ℤ) (b : Book) (e : Event) → resetBy t b e ≡ false → bookStep t b e .offset ≡ b .offset
+unfolding resetBy bookStep
+step-still t b (Telegram w) n = by-test (acceptsOf t w) (takes b w) b (λ (x : Book). x .offset ≡ b .offset) (λ _. refl) (λ _. refl)
+step-still t b (Levels l) n =
+    by-test (leb l 7) _ b (λ (x : Book). x .offset ≡ b .offset)
+    (λ y. rw (inputs-still t l b (and-second (leb l 7) (some 3 (resets t b l)) n (is-true (leb l 7) y)))) (λ _. refl)
+step-still t b (Tick ms) n = refl
+
+pub between-resets : (t : List ℤ) (b : Book) (es : List Event) → resetIn t b es ≡ false → bookFrom t b es .offset ≡ b .offset
+unfolding resetIn bookFrom
+between-resets t b [] n = refl
+between-resets t b (e ∷ es) n =
+    let none = or-both (resetBy t b e) (resetIn t (bookStep t b e) es) n in
+    between-resets t (bookStep t b e) es (none .1) ∙ step-still t b e (none .0)
+
+book-append : (t : List ℤ) (b : Book) (es fs : List Event) → bookFrom t b (es ++ fs) ≡ bookFrom t (bookFrom t b es) fs
+unfolding bookFrom
+book-append t b [] fs = refl
+book-append t b (e ∷ es) fs = book-append t (bookStep t b e) es fs
+
+-- the book has the telegram that comes last
 book-telegram : (t : List ℤ) (b : Book) (es : List Event) (w : ℕ) → T (acceptsOf t w) → bookFrom t b (upTo es w) ≡ takes (bookFrom t b es) w
 unfolding bookFrom bookStep
 book-telegram t b es w y = rw (book-append t b es (Telegram w ∷ []), is-true (acceptsOf t w) y)
 
-reset-telegram : (t : List ℤ) (b : Book) (es : List Event) (w : ℕ) → resetIn t b (upTo es w) ≡ resetIn t b es
-unfolding resetIn resetBy
-reset-telegram t b [] w = refl
-reset-telegram t b (e ∷ es) w = rw (reset-telegram t (bookStep t b e) es w)
-
 pub telegrams : ForwardTelegrams
 telegrams t f es between w w′ y y′ none h =
-    moments t f (upTo es w) (upTo between w′) (rw (first) tt) (rw (reset-telegram t (bookOf t (upTo es w)) between w′) none) (rw (first, second) h)
+    runs t f (upTo es w) (upTo es w ++ upTo between w′) (rw first tt) (rw second tt) (rw second (sym (between-resets t (bookOf t (upTo es w)) between none))) (rw (first, second) h)
   where
     first : bookOf t (upTo es w) ≡ takes (bookOf t es) w
     first = book-telegram t (freshBook t) es w y
