@@ -2,7 +2,7 @@
 -- reset between two telegrams; in each of them digits run back. And tables that meet all conditions, in the three modes of linearization.
 -- One list of what the definitions give and what is worked out by hand, and one proof by computing. Request K14.
 use mathlib.Core.Path.{_≡_, refl}
-use mathlib.Core.Bool.{cond}
+use mathlib.Core.Bool.{Bool, true, false}
 use mathlib.Core.List.{List, [], _∷_, _++_}
 use Prim.Native.Nat.{ℕ}
 use lib.IntN.{ℤ, pos, negsuc}
@@ -14,7 +14,7 @@ use Rattle.measurement.specs.Measure as measure
 use Rattle.parameters.specs.Load as load
 use Rattle.parameters.specs.Rows as row
 use Rattle.parameters.specs.Search as search
-use Rattle.parameters.specs.Slots.{direction, roundLoop}
+use Rattle.parameters.specs.Slots as slot
 use Rattle.reading.specs.Reading as reading
 use Rattle.settings.specs.Settings as settings
 use Rattle.events.specs.declared.Event.{Event}
@@ -41,60 +41,80 @@ reverse = set binary 6 (pos 1)
 abbrev circle : List ℤ
 circle = set binary 7 (pos 360)
 
--- two points, by the mode: the first, and the second at x = 10
-abbrev points : ℕ → ℤ → ℤ → ℤ → List ℤ
-points m x y y₁ = set (set (set (set (set (set binary 13 (pos m)) 55 (pos 2)) 56 x) 57 y) 58 (pos 10)) 59 y₁
+-- two points in a mode of linearization, (0, y) and (10, y₁)
+abbrev line : ℕ → ℤ → ℤ → List ℤ
+line m y y₁ = set (set (set (set binary 13 (pos m)) 57 y) 58 (pos 10)) 59 y₁
 
--- four quadrants, from (0, 10) down to (10, 0)
 abbrev falling : List ℤ
-falling = points 2 (pos 0) (pos 10) (pos 0)
+falling = line 2 (pos 10) (pos 0)
 
--- one quadrant, from (0, 0) up to (10, 5), with O = 10; four quadrants, level from (0, 5) to (10, 5)
-abbrev oneRises : List ℤ
-oneRises = set (points 1 (pos 0) (pos 0) (pos 5)) 5 (pos 10)
+-- one quadrant with O = 10, and four quadrants, level
+abbrev rising : List ℤ
+rising = set (line 1 (pos 0) (pos 5)) 5 (pos 10)
 
-abbrev fourLevel : List ℤ
-fourLevel = points 2 (pos 0) (pos 5) (pos 5)
+abbrev level : List ℤ
+level = line 2 (pos 5) (pos 5)
 
--- ---- the list
+-- ---- what is asked of a table, and what two telegrams give
+
+pub record Given : Type 0 where
+  pub position : ℕ
+  pub error : ℕ
+  pub result : ℤ
+
+pub record Outcome : Type 0 where
+  -- the number of the load's refusal, and the conditions
+  pub refusal : ℕ
+  pub direction : ℕ
+  pub loop : ℕ
+  pub falls : Bool
+  pub first : Given
+  pub second : Given
+
+abbrev gives : ℕ → ℕ → ℤ → Given
+gives p e r = record { position = p; error = e; result = r }
+
+abbrev given : List ℤ → ℕ → Given
+given t w = gives (positionAt t w) (measure.errorNumber (readingAt t w .error)) (readingAt t w .result)
+
+abbrev said : ℕ → ℕ → ℕ → Bool → Given → Given → Outcome
+said n d l f g g′ = record { refusal = n; direction = d; loop = l; falls = f; first = g; second = g′ }
+
+abbrev got : List ℤ → ℕ → ℕ → Outcome
+got t w w′ = said (load.loadRefusal t) (slot.direction t) (slot.roundLoop t) (yFalls t) (given t w) (given t w′)
+
+-- ---- the list: what the definitions give, and what is worked out by hand
 
 pub record Case : Type 0 where
-  pub table : List ℤ
-  -- two telegrams
-  pub first : ℕ
-  pub second : ℕ
+  pub is : Outcome
+  pub should : Outcome
 
-abbrev case : List ℤ → ℕ → ℕ → Case
-case t w w′ = record { table = t; first = w; second = w′ }
-
--- position, error and result of a telegram
-abbrev read : List ℤ → ℕ → List ℤ
-read t w = pos (positionAt t w) ∷ pos (measure.errorNumber (readingAt t w .error)) ∷ readingAt t w .result ∷ []
-
--- what is asked of the table: the number of its refusal, its direction, its round loop, and whether its y falls, 1 for yes; then what the two telegrams give
-abbrev row-of : Case → List ℤ
-row-of c =
-    pos (load.loadRefusal (c .table)) ∷ pos (direction (c .table)) ∷ pos (roundLoop (c .table)) ∷ pos (cond (yFalls (c .table)) 1 0) ∷
-    (read (c .table) (c .first) ++ read (c .table) (c .second))
-
-abbrev rows-of : List Case → List (List ℤ)
-rows-of [] = []
-rows-of (c ∷ cs) = row-of c ∷ rows-of cs
+abbrev case : Outcome → Outcome → Case
+case g s = record { is = g; should = s }
 
 pub cases : List Case
 cases =
-    case falling 0 10 ∷ case circle 359 360 ∷ case reverse 1 2 ∷
-    case binary 1 2 ∷ case oneRises 7 13 ∷ case fourLevel 3 200 ∷ []
+    -- a falling y alone, a round loop alone, reverse alone: digits run back
+    case (got falling 0 10) (said 0 0 0 true (gives 0 0 (pos 10)) (gives 10 0 (pos 0))) ∷
+    case (got circle 359 360) (said 0 0 360 false (gives 359 0 (pos 359)) (gives 360 0 (pos 0))) ∷
+    case (got reverse 1 2) (said 0 1 0 false (gives 1 0 (pos 33554431)) (gives 2 0 (pos 33554430))) ∷
+    -- none of them, with linearization off, in one quadrant (−1.5 and 1.5, rounded) and in four: they do not
+    case (got binary 1 2) (said 0 0 0 false (gives 1 0 (pos 1)) (gives 2 0 (pos 2))) ∷
+    case (got rising 7 13) (said 0 0 0 false (gives 7 0 (negsuc 1)) (gives 13 0 (pos 2))) ∷
+    case (got level 3 200) (said 0 0 0 false (gives 3 0 (pos 5)) (gives 200 0 (pos 5))) ∷
+    -- with linearization off a falling y is not asked for
+    case (got (set falling 13 (pos 0)) 0 10) (said 0 0 0 false (gives 0 0 (pos 0)) (gives 10 0 (pos 10))) ∷
+    []
 
-pub checked : rows-of cases ≡
-    -- a falling y alone, a round loop alone, reverse alone: the result of the greater position is the smaller
-    (pos 0 ∷ pos 0 ∷ pos 0 ∷ pos 1 ∷ pos 0 ∷ pos 0 ∷ pos 10 ∷ pos 10 ∷ pos 0 ∷ pos 0 ∷ []) ∷
-    (pos 0 ∷ pos 0 ∷ pos 360 ∷ pos 0 ∷ pos 359 ∷ pos 0 ∷ pos 359 ∷ pos 360 ∷ pos 0 ∷ pos 0 ∷ []) ∷
-    (pos 0 ∷ pos 1 ∷ pos 0 ∷ pos 0 ∷ pos 1 ∷ pos 0 ∷ pos 33554431 ∷ pos 2 ∷ pos 0 ∷ pos 33554430 ∷ []) ∷
-    -- none of them, linearization off, one quadrant, four: it is not; at d = −3 and 3 the mirrored half, −1.5 and 1.5 rounded
-    (pos 0 ∷ pos 0 ∷ pos 0 ∷ pos 0 ∷ pos 1 ∷ pos 0 ∷ pos 1 ∷ pos 2 ∷ pos 0 ∷ pos 2 ∷ []) ∷
-    (pos 0 ∷ pos 0 ∷ pos 0 ∷ pos 0 ∷ pos 7 ∷ pos 0 ∷ negsuc 1 ∷ pos 13 ∷ pos 0 ∷ pos 2 ∷ []) ∷
-    (pos 0 ∷ pos 0 ∷ pos 0 ∷ pos 0 ∷ pos 3 ∷ pos 0 ∷ pos 5 ∷ pos 200 ∷ pos 0 ∷ pos 5 ∷ []) ∷ []
+abbrev outcomes : List Case → List Outcome
+outcomes [] = []
+outcomes (c ∷ cs) = c .is ∷ outcomes cs
+
+abbrev expected : List Case → List Outcome
+expected [] = []
+expected (c ∷ cs) = c .should ∷ expected cs
+
+pub checked : outcomes cases ≡ expected cases
 unfolding cases fallsAfter yFalls some load.loadRefusal load.conditions load.conflicts load.wordsMissing load.slotOut load.fieldWrong load.errorBitWrong load.spanEmpty load.notAbove load.pointsNotRising load.originMissing load.frozenByEdge load.freezeOnEdge load.differ load.differsFrom load.polaritiesDiffer search.firstOf row.outFrom row.inRange row.defaultTable row.defaultsFrom row.rowAt row.rowOf reading.directedAt reading.basisOf reading.measuredAt reading.readingOf settings.layoutOf settings.scalingOf settings.pointsOf ssi.errorReported ssi.positionOf measure.directedOf measure.distanceOf measure.scaledOf measure.judgedOf measure.usedPoints measure.valueOf measure.measuredOf curve.pointsFrom curve.rightOf curve.fourQuadrants curve.oneQuadrant curve.curve curve.linearizedOf roundDiv floorMod
 checked = refl
 
@@ -110,9 +130,8 @@ atFirst = Telegram 1000 ∷ []
 abbrev more : List Event
 more = Levels 1 ∷ Telegram 1003 ∷ []
 
--- the result at 1,000; whether a reset comes after it, 1 for yes; and the result at 1,003
+-- 1,000 gives 1,000; then a reset; then 1,003 gives 3
 pub reset-between :
-    (lastAnswer resetting atFirst .result ∷ pos (cond (resetIn resetting (bookOf resetting atFirst) more) 1 0) ∷ lastAnswer resetting (atFirst ++ more) .result ∷ []) ≡
-    (pos 1000 ∷ pos 1 ∷ pos 3 ∷ [])
+    (resetIn resetting (bookOf resetting atFirst) more ≡ true) × ((lastAnswer resetting atFirst .result ≡ pos 1000) × (lastAnswer resetting (atFirst ++ more) .result ≡ pos 3))
 unfolding lastOf answersOf freshOf step.stepOf step.onTelegram step.onLevels step.answerOf step.displayedOf step.switchedOf state.receivedOf state.rereadOf reading.acceptsOf reading.directedAt reading.basisOf reading.measuredAt reading.readingOf settings.layoutOf settings.scalingOf settings.pointsOf settings.inputAt settings.actionOf settings.configOf ssi.accepted ssi.errorReported ssi.positionOf measure.directedOf measure.distanceOf measure.scaledOf measure.judgedOf measure.usedPoints measure.valueOf measure.measuredOf curve.curve curve.linearizedOf roundDiv row.defaultTable row.defaultsFrom row.rowAt row.rowOf resetBy resetIn some book.asksReset book.bookRefusal book.bookInput book.bookStep book.bookFrom commands.resetRefusal commands.refusalOf commands.resetOf commands.carriedOut commands.commandOf levels.edgeAt levels.inputOf levels.commandsOf levels.actsOn
-reset-between = refl
+reset-between = (refl, (refl, refl))
