@@ -19,6 +19,7 @@ use Rattle.reading.specs.declared.Reading.{Reading}
 use Rattle.reading.specs.Reading.{acceptsOf, basisOf, readingOf}
 use Rattle.settings.specs.Settings.{layoutOf}
 use Rattle.ssi.specs.Telegram.{positionOf}
+use Rattle.panel.specs.declared.Answer.{Answer}
 use Rattle.runs.specs.Book.{Book, resets, bookStep, bookOf}
 use Rattle.runs.specs.Run.{lastAnswer}
 
@@ -73,12 +74,15 @@ unfoldable pub resetIn : List ℤ → Book → List Event → Bool
 resetIn t b [] = false
 resetIn t b (e ∷ es) = resetBy t b e || resetIn t (bookStep t b e) es
 
--- some events and a telegram behind them
-abbrev pub upTo : List Event → ℕ → List Event
-upTo es w = es ++ (Telegram w ∷ [])
+-- some events and a telegram behind them, and the answer to it
+abbrev pub followedBy : List Event → ℕ → List Event
+followedBy es w = es ++ (Telegram w ∷ [])
+
+abbrev pub answerTo : List ℤ → List Event → ℕ → Answer
+answerTo t es w = lastAnswer t (followedBy es w)
 
 -- both are accepted, and no event between them carries a reset out
 abbrev pub ForwardTelegrams : Type 0
-ForwardTelegrams = (t : List ℤ) → Forward t → (es between : List Event) (w w′ : ℕ) → T (acceptsOf t w) → T (acceptsOf t w′) → resetIn t (bookOf t (upTo es w)) between ≡ false →
-    positionAt t w ≤ positionAt t w′ → lastAnswer t (upTo es w) .error ≡ Error.None → lastAnswer t (upTo es w ++ upTo between w′) .error ≡ Error.None →
-    lastAnswer t (upTo es w) .result ≤ℤ lastAnswer t (upTo es w ++ upTo between w′) .result
+ForwardTelegrams = (t : List ℤ) → Forward t → (es between : List Event) (w w′ : ℕ) → T (acceptsOf t w) → T (acceptsOf t w′) → resetIn t (bookOf t (followedBy es w)) between ≡ false →
+    positionAt t w ≤ positionAt t w′ → answerTo t es w .error ≡ Error.None → answerTo t (followedBy es w ++ between) w′ .error ≡ Error.None →
+    answerTo t es w .result ≤ℤ answerTo t (followedBy es w ++ between) w′ .result

@@ -53,7 +53,7 @@ use Rattle.runs.specs.Demand3Laws.{good-run, kept-run}
 use Rattle.runs.specs.KeptLaws.{Kept, kept-fresh}
 use Rattle.runs.specs.Run.{runOf, lastAnswer}
 use Rattle.runs.specs.RunLaws.{answer-own, last-own, last-state, own-result, own-error}
-use Rattle.forward.specs.Forward.{fallsAfter, yFalls, Forward, positionAt, readingAt, ForwardReadings, ForwardRuns, resetBy, resetIn, upTo, ForwardTelegrams}
+use Rattle.forward.specs.Forward.{fallsAfter, yFalls, Forward, positionAt, readingAt, ForwardReadings, ForwardRuns, resetBy, resetIn, followedBy, ForwardTelegrams}
 use Rattle.forward.specs.RisingLaws.{neverFallsFrom, NeverFalls, curve-rises}
 
 -- ---- the chain from position to value: each step keeps the order
@@ -245,16 +245,19 @@ book-append t b [] fs = refl
 book-append t b (e ∷ es) fs = book-append t (bookStep t b e) es fs
 
 -- the book has the telegram that comes last
-book-telegram : (t : List ℤ) (b : Book) (es : List Event) (w : ℕ) → T (acceptsOf t w) → bookFrom t b (upTo es w) ≡ takes (bookFrom t b es) w
+book-telegram : (t : List ℤ) (b : Book) (es : List Event) (w : ℕ) → T (acceptsOf t w) → bookFrom t b (followedBy es w) ≡ takes (bookFrom t b es) w
 unfolding bookFrom bookStep
 book-telegram t b es w y = rw (book-append t b es (Telegram w ∷ []), is-true (acceptsOf t w) y)
 
 pub telegrams : ForwardTelegrams
 telegrams t f es between w w′ y y′ none h =
-    runs t f (upTo es w) (upTo es w ++ upTo between w′) (rw first tt) (rw second tt) (rw second (sym (between-resets t (bookOf t (upTo es w)) between none))) (rw (first, second) h)
+    runs t f so-far (followedBy (so-far ++ between) w′) (rw first tt) (rw second tt) (rw second (sym (between-resets t (bookOf t so-far) between none))) (rw (first, second) h)
   where
-    first : bookOf t (upTo es w) ≡ takes (bookOf t es) w
+    so-far : List Event
+    so-far = followedBy es w
+
+    first : bookOf t so-far ≡ takes (bookOf t es) w
     first = book-telegram t (freshBook t) es w y
 
-    second : bookOf t (upTo es w ++ upTo between w′) ≡ takes (bookFrom t (bookOf t (upTo es w)) between) w′
-    second = book-append t (freshBook t) (upTo es w) (upTo between w′) ∙ book-telegram t (bookOf t (upTo es w)) between w′ y′
+    second : bookOf t (followedBy (so-far ++ between) w′) ≡ takes (bookFrom t (bookOf t so-far) between) w′
+    second = book-telegram t (freshBook t) (so-far ++ between) w′ y′ ∙ ap (λ (b : Book). takes b w′) (book-append t (freshBook t) so-far between)
