@@ -42,6 +42,7 @@ pub record Forward (t : List ℤ) : Type 0 where
 
 -- ---- of readings: two telegrams under one table, and so "equal offset"
 
+-- p of a telegram, and its reading
 abbrev pub positionAt : List ℤ → ℕ → ℕ
 positionAt t w = positionOf (layoutOf t) w
 

@@ -218,18 +218,16 @@ runs t f es es′ y y′ same h k k′ =
 
 -- ---- of two telegrams: between resets the book keeps its offset
 
-inputs-still : (t : List ℤ) (l : ℕ) (b : Book) → some 3 (resets t b l) ≡ false → bookInput t l 2 (bookInput t l 1 (bookInput t l 0 b)) ≡ b
+inputs-still : (t : List ℤ) (l : ℕ) (b : Book) → ((i : ℕ) → i < 3 → resets t b l i ≡ false) → bookInput t l 2 (bookInput t l 1 (bookInput t l 0 b)) ≡ b
 unfolding bookInput
-inputs-still t l b n =
-    let none : (i : ℕ) → i < 3 → resets t b l i ≡ false = λ i h. some-none (resets t b l) 3 i n h in
-    rw (none 0 (omega arith), none 1 (omega arith), none 2 (omega arith))
+inputs-still t l b none = rw (none 0 (omega arith), none 1 (omega arith), none 2 (omega arith))
 
 step-still : (t : List ℤ) (b : Book) (e : Event) → resetBy t b e ≡ false → bookStep t b e .offset ≡ b .offset
 unfolding resetBy bookStep
 step-still t b (Telegram w) n = by-test (acceptsOf t w) (takes b w) b (λ (x : Book). x .offset ≡ b .offset) (λ _. refl) (λ _. refl)
 step-still t b (Levels l) n =
     by-test (leb l 7) _ b (λ (x : Book). x .offset ≡ b .offset)
-    (λ y. rw (inputs-still t l b (and-second (leb l 7) (some 3 (resets t b l)) n (is-true (leb l 7) y)))) (λ _. refl)
+    (λ y. rw (inputs-still t l b (λ i h. some-none (resets t b l) _ i (and-second (leb l 7) _ n (is-true (leb l 7) y)) h))) (λ _. refl)
 step-still t b (Tick ms) n = refl
 
 pub between-resets : (t : List ℤ) (b : Book) (es : List Event) → resetIn t b es ≡ false → bookFrom t b es .offset ≡ b .offset

@@ -15,6 +15,7 @@ use Rattle.integers.specs.Fraction.{Frac, whole, minus}
 use Rattle.integers.specs.Int.{P, N}
 use Rattle.integers.specs.OrderLaws.{NotAbove, not-above-self, by-whole, turned-over}
 use Rattle.integers.specs.RingLaws.{var, lit, _⊕_, _⊖_, _⊗_, le, le-in, le-ex, lt-ex, nlt-ex, abs-ex, mul-mono, nonNeg-N, negative-P}
+use Rattle.measurement.specs.CurveLaws.{before-not-above, not-before-above}
 use Rattle.measurement.specs.Curve.{Point, before, line, rightOf, fourQuadrants, oneQuadrant, curve, rising, origin, Ordered}
 
 -- ---- one line: y + A D / m with A the way from x, D the rise, m the run
@@ -65,13 +66,7 @@ module _ (p p₁ : Point) (up-hill : T (ltZ (p .x) (p₁ .x))) (no-fall : T (leZ
           le ((var y ⊗ lit m ⊕ var A ⊗ (var y₁ ⊖ var y)) ⊗ lit 1) (var y₁ ⊗ lit m)
           (omega (arith, le-in (var A ⊗ (var y₁ ⊖ var y)) (lit m ⊗ (var y₁ ⊖ var y)) (mul-mono A (pos m) (y₁ -ℤ y) h r)))
 
--- ---- on which side of a whole number a fraction lies
-
-before-not-above : (q : Frac) (z : ℤ) → T (before q z) → NotAbove q (whole z)
-before-not-above q z t = le (var (q .num) ⊗ lit 1) (var z ⊗ lit (q .den)) (omega (arith, lt-ex (var (q .num)) (var z ⊗ lit (q .den)) t))
-
-not-before-above : (q : Frac) (z : ℤ) → T (not (before q z)) → NotAbove (whole z) q
-not-before-above q z t = le (var z ⊗ lit (q .den)) (var (q .num) ⊗ lit 1) (omega (arith, nlt-ex (var (q .num)) (var z ⊗ lit (q .den)) t))
+-- ---- the curve
 
 -- where q is not above r, r is not before z unless q is
 no-way-back : (q r : Frac) (z : ℤ) → 0 < q .den → NotAbove q r → T (not (before q z)) → T (before r z) → ⊥
@@ -83,8 +78,6 @@ no-way-back q r z d h s t =
   where
     numbers : (a a′ c c′ z z′ b d : ℕ) → 0 < b → z * b + a′ ≤ a + z′ * b → a * d + c′ * b ≤ c * b + a′ * d → suc (c + z′ * d) ≤ z * d + c′ → ⊥
     numbers a a′ c c′ z z′ b d hb h k l = omega (arith, mul-le-mul-right d h, mul-le-mul-right b l)
-
--- ---- the curve
 
 -- a function of fractions that keeps their order
 abbrev pub Rises : (Frac → Frac) → Type 0

@@ -1,38 +1,27 @@
 -- The curve is nowhere steeper than S, and its fractions have a lower number above zero. Paper 01, "From telegram to result", step 4: L and S.
 -- Two values on one segment differ by the slope times the distance; across a point the two ways add up. Assumes nothing.
 use mathlib.Core.Path.{_≡_, ap, _∙_, subst}
-use mathlib.Core.Bool.{Bool, not}
+use mathlib.Core.Bool.{not}
 use mathlib.Core.List.{List, [], _∷_}
 use Prim.Native.Nat.{ℕ, _+_, _*_, _-_, _≤_, _<_}
 use native.Mathlib.Nat.{mul-le-mul-left, mul-le-mul-right, le-of-mul-le-mul-right, mul-pos}
 use native.Mathlib.Omega.{arith}
 use lib.Dec.{T, leb, leb→le, nleb→lt}
 use lib.IntN.{ℤ, pos, natAbs, _+ℤ_, _-ℤ_, _*ℤ_}
-use lib.Signed.{leZ, ltZ, nonNeg}
+use lib.Signed.{ltZ, nonNeg}
 use Rattle.integers.specs.ChoiceLaws.{by-test}
-use Rattle.integers.specs.RingLaws.{Exp, var, lit, _⊕_, _⊖_, _⊗_, neg, val, up, dn, ring, abs-ex, abs-plus, abs-times, le-ex, lt-ex, nlt-ex, le-by, nonNeg-N, negative-P}
+use Rattle.integers.specs.RingLaws.{Exp, var, lit, _⊕_, _⊖_, _⊗_, neg, val, up, dn, ring, le, le-in, abs-ex, abs-plus, abs-times, lt-ex, nlt-ex, nonNeg-N, negative-P}
 use Rattle.integers.specs.Fraction.{Frac, Ratio, atMost, whole, minus, gap}
+use Rattle.integers.specs.OrderLaws.{NotAbove}
 use Rattle.measurement.specs.Curve.{Point, before, line, rightOf, fourQuadrants, oneQuadrant, slope, larger, steepestFrom, rising, origin}
 
 -- ---- on which side of a whole number a fraction lies
 
--- q is at or below z
-abbrev pub upTo : Frac → ℤ → Bool
-upTo q z = leZ (q .num) (z *ℤ pos (q .den))
+pub before-not-above : (q : Frac) (z : ℤ) → T (before q z) → NotAbove q (whole z)
+before-not-above q z t = le (var (q .num) ⊗ lit 1) (var z ⊗ lit (q .den)) (omega (arith, lt-ex (var (q .num)) (var z ⊗ lit (q .den)) t))
 
--- q is at or above z
-abbrev pub from : ℤ → Frac → Bool
-from z q = leZ (z *ℤ pos (q .den)) (q .num)
-
-pub before-upTo : (q : Frac) (z : ℤ) → T (before q z) → T (upTo q z)
-before-upTo q z t =
-    let h = lt-ex (var (q .num)) (var z ⊗ lit (q .den)) t in
-    le-by (var (q .num)) (var z ⊗ lit (q .den)) (omega arith)
-
-pub not-before : (q : Frac) (z : ℤ) → T (not (before q z)) → T (from z q)
-not-before q z t =
-    let h = nlt-ex (var (q .num)) (var z ⊗ lit (q .den)) t in
-    le-by (var z ⊗ lit (q .den)) (var (q .num)) (omega arith)
+pub not-before-above : (q : Frac) (z : ℤ) → T (not (before q z)) → NotAbove (whole z) q
+not-before-above q z t = le (var z ⊗ lit (q .den)) (var (q .num) ⊗ lit 1) (omega (arith, nlt-ex (var (q .num)) (var z ⊗ lit (q .den)) t))
 
 -- ---- distances
 
@@ -61,10 +50,10 @@ triangle u m w =
     )
 
 -- and no longer, where m lies between
-pub between : (u w : Frac) (x : ℤ) → T (upTo u x) → T (from x w) → gap u (whole x) * w .den + gap w (whole x) * u .den ≡ gap u w
+pub between : (u w : Frac) (x : ℤ) → NotAbove u (whole x) → NotAbove (whole x) w → gap u (whole x) * w .den + gap w (whole x) * u .den ≡ gap u w
 between u w x s t =
-    let p = le-ex (var (u .num)) (var x ⊗ lit (u .den)) s in
-    let q = le-ex (var x ⊗ lit (w .den)) (var (w .num)) t in
+    let p = le-in (var (u .num) ⊗ lit 1) (var x ⊗ lit (u .den)) s in
+    let q = le-in (var x ⊗ lit (w .den)) (var (w .num) ⊗ lit 1) t in
     let a : gap u (whole x) + up (var (u .num)) + dn (var x ⊗ lit (u .den)) ≡ up (var x ⊗ lit (u .den)) + dn (var (u .num)) = omega (arith, abs-ex (gapE u (whole x))) in
     let b : gap w (whole x) + up (var x ⊗ lit (w .den)) + dn (var (w .num)) ≡ up (var (w .num)) + dn (var x ⊗ lit (w .den)) = omega (arith, abs-ex (gapE w (whole x))) in
     omega (arith, ap (λ (n : ℕ). n * w .den) a, ap (λ (n : ℕ). n * u .den) b, abs-ex (gapE u w), mul-le-mul-right (w .den) p, mul-le-mul-right (u .den) q)
@@ -86,7 +75,7 @@ via-numbers : (run rise b c d e g g₁ g₂ h h₁ h₂ : ℕ) → g * 1 ≤ g�
 via-numbers run rise b c d e g g₁ g₂ h h₁ h₂ tri btw p q =
     omega (arith, mul-le-mul-left (run * (b * c)) tri, mul-le-mul-right (c * e) p, mul-le-mul-right (b * d) q, ap (λ (n : ℕ). rise * n * (d * e)) btw)
 
-pub lip-via : (S : Ratio) (q r u w : Frac) (x y : ℤ) → T (upTo q x) → T (from x r) →
+pub lip-via : (S : Ratio) (q r u w : Frac) (x y : ℤ) → NotAbove q (whole x) → NotAbove (whole x) r →
     Lip S q (whole x) u (whole y) → Lip S r (whole x) w (whole y) → Lip S q r u w
 lip-via S q r u w x y s t h g =
     via-numbers (S .low) (S .top) (q .den) (r .den) (u .den) (w .den) (gap u w) (gap u (whole y)) (gap w (whole y)) (gap q r) (gap q (whole x)) (gap r (whole x))
@@ -171,14 +160,14 @@ unders S p [] = Unit {0}
 unders S p (p₁ ∷ ps) = under S p p₁ × unders S p₁ ps
 
 module _ (S : Ratio) where
-  from-first : (p : Point) (ps : List Point) → rising p ps → unders S p ps → (q : Frac) → T (from (p .x) q) →
+  from-first : (p : Point) (ps : List Point) → rising p ps → unders S p ps → (q : Frac) → NotAbove (whole (p .x)) q →
       Lip S q (whole (p .x)) (rightOf p ps q) (whole (p .y))
   unfolding rightOf rising unders
   from-first p [] r u q t = lip-self S q (whole (p .x)) (whole (p .y))
   from-first p (p₁ ∷ ps) r u q t = by-test (before q (p₁ .x)) (line p p₁ q) (rightOf p₁ ps q) (λ w. Lip S q (whole (p .x)) w (whole (p .y)))
       (λ c. seg-left S p p₁ (r .0) (u .0) q)
-      (λ c. let after : T (from (p₁ .x) q) = not-before q (p₁ .x) c in
-      let step : T (upTo (whole (p .x)) (p₁ .x)) = le-by (var (p .x)) (var (p₁ .x) ⊗ lit 1) (omega (arith, lt-ex (var (p .x)) (var (p₁ .x)) (r .0))) in
+      (λ c. let after : NotAbove (whole (p₁ .x)) q = not-before-above q (p₁ .x) c in
+      let step : NotAbove (whole (p .x)) (whole (p₁ .x)) = le (var (p .x) ⊗ lit 1) (var (p₁ .x) ⊗ lit 1) (omega (arith, lt-ex (var (p .x)) (var (p₁ .x)) (r .0))) in
       lip-sym S (whole (p .x)) q (whole (p .y)) (rightOf p₁ ps q)
       (lip-via S (whole (p .x)) q (whole (p .y)) (rightOf p₁ ps q) (p₁ .x) (p₁ .y) step after (seg-ends S p p₁ (r .0) (u .0)) (from-first p₁ ps (r .1) (u .1) q after)))
 
@@ -195,15 +184,15 @@ module _ (S : Ratio) where
       (λ d. lip-right p₁ ps (up .1) (u .1) q r))
     where
       across : (q r : Frac) → T (before q (p₁ .x)) → T (not (before r (p₁ .x))) → Lip S q r (line p p₁ q) (rightOf p₁ ps r)
-      across q r c d = let after : T (from (p₁ .x) r) = not-before r (p₁ .x) d in
-          lip-via S q r (line p p₁ q) (rightOf p₁ ps r) (p₁ .x) (p₁ .y) (before-upTo q (p₁ .x) c) after (seg-right S p p₁ (up .0) (u .0) q) (from-first p₁ ps (up .1) (u .1) r after)
+      across q r c d = let after : NotAbove (whole (p₁ .x)) r = not-before-above r (p₁ .x) d in
+          lip-via S q r (line p p₁ q) (rightOf p₁ ps r) (p₁ .x) (p₁ .y) (before-not-above q (p₁ .x) c) after (seg-right S p p₁ (up .0) (u .0) q) (from-first p₁ ps (up .1) (u .1) r after)
 
   four-first : (p : Point) (ps : List Point) → rising p ps → unders S p ps → (q : Frac) → Lip S q (whole (p .x)) (fourQuadrants (p ∷ ps) q) (whole (p .y))
   unfolding fourQuadrants
   four-first p ps up u q =
       by-test (before q (p .x)) (whole (p .y)) (rightOf p ps q) (λ w. Lip S q (whole (p .x)) w (whole (p .y)))
       (λ c. lip-self S q (whole (p .x)) (whole (p .y)))
-      (λ c. from-first p ps up u q (not-before q (p .x) c))
+      (λ c. from-first p ps up u q (not-before-above q (p .x) c))
 
   pub lip-four : (p : Point) (ps : List Point) → rising p ps → unders S p ps → (q r : Frac) → Lip S q r (fourQuadrants (p ∷ ps) q) (fourQuadrants (p ∷ ps) r)
   unfolding fourQuadrants
@@ -217,8 +206,8 @@ module _ (S : Ratio) where
       (λ d. lip-right p ps up u q r))
     where
       across : (q r : Frac) → T (before q (p .x)) → T (not (before r (p .x))) → Lip S q r (whole (p .y)) (rightOf p ps r)
-      across q r c d = let after : T (from (p .x) r) = not-before r (p .x) d in
-          lip-via S q r (whole (p .y)) (rightOf p ps r) (p .x) (p .y) (before-upTo q (p .x) c) after (lip-self S q (whole (p .x)) (whole (p .y))) (from-first p ps up u r after)
+      across q r c d = let after : NotAbove (whole (p .x)) r = not-before-above r (p .x) d in
+          lip-via S q r (whole (p .y)) (rightOf p ps r) (p .x) (p .y) (before-not-above q (p .x) c) after (lip-self S q (whole (p .x)) (whole (p .y))) (from-first p ps up u r after)
 
 -- ---- one quadrant: the curve begins at (0, 0), and is mirrored there
 
@@ -241,8 +230,8 @@ lip-one S ps up u q r =
 
     across : (q r : Frac) → T (not (nonNeg (q .num))) → T (nonNeg (r .num)) → Lip S q r (minus (at (minus q))) (at r)
     across q r c d = lip-via S q r (minus (at (minus q))) (at r) (pos 0) (pos 0)
-        (le-by (var (q .num)) (lit 0 ⊗ lit (q .den)) (omega (arith, negative-P (q .num) c)))
-        (le-by (lit 0 ⊗ lit (r .den)) (var (r .num)) (omega (arith, nonNeg-N (r .num) d)))
+        (le (var (q .num) ⊗ lit 1) (lit 0 ⊗ lit (q .den)) (omega (arith, negative-P (q .num) c)))
+        (le (lit 0 ⊗ lit (r .den)) (var (r .num) ⊗ lit 1) (omega (arith, nonNeg-N (r .num) d)))
         (lip-minus S q (whole (pos 0)) (at (minus q)) (whole (pos 0)) (four-first S origin ps up u (minus q)))
         (four-first S origin ps up u r)
 
