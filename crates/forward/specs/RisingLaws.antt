@@ -1,5 +1,5 @@
 -- The curve through points whose y never fall keeps the order of fractions, in all three modes of linearization. On one line, since its rise is not negative; across
--- a point, since both sides are held against the point's y; in one quadrant, since the half mirrored at (0, 0) rises too; and with the mode off it is nothing.
+-- a point, since both sides are held against the point's y; in one quadrant, since the half mirrored at (0, 0) rises too; with the mode off L is what it is given.
 -- Request K14; paper 01, "From telegram to result", step 4. Assumes nothing.
 use mathlib.Core.Path.{_≡_, sym, ap, subst}
 use mathlib.Core.Bool.{not}

@@ -1,4 +1,4 @@
--- The laws of `roundDiv`: monotone, halves away from zero, nearest, odd, only. Assumes nothing.
+-- The laws of `roundDiv`: halves away from zero, monotone, nearest, odd, only. Assumes nothing.
 use Prim.Native.Nat.{ℕ, zero, suc, _+_, _-_, _*_, _/_, _%_, _≤_, _<_}
 use mathlib.Core.Path.{_≡_, refl, sym, ap, _∙_}
 use native.Mathlib.Omega.{arith}
@@ -68,6 +68,15 @@ offE a d q = var (pos 2) ⊗ (var d ⊗ q ⊖ var a)
 
 -- ---- the laws
 
+-- where a / d is q and a half
+half : (a d q : ℕ) → 0 < d → 2 * a ≡ (2 * q + 1) * d → near a d ≡ suc q
+half a d q h e = sym (near-is a d (suc q) h (omega arith) (omega arith))
+
+-- below zero it is −(q + 1)
+pub half-below : (a d q : ℕ) → 0 < d → 2 * suc a ≡ (2 * q + 1) * d → roundDiv (negsuc a) (pos d) ≡ negsuc q
+unfolding roundDiv
+half-below a d q h e = ap (λ (m : ℕ). negℤ (pos m)) (half (suc a) d q h e)
+
 -- it keeps the order
 pub round-mono : (a b d : ℤ) → a ≤ℤ b → roundDiv a d ≤ℤ roundDiv b d
 unfolding roundDiv
@@ -81,17 +90,10 @@ round-mono (negsuc a) (negsuc b) (pos d) h =
     let l : suc b ≤ suc a = omega (arith, ints) in
     omega (arith, ints, near-mono (suc b) (suc a) d l, neg-P (pos (near (suc a) d)), neg-N (pos (near (suc a) d)), neg-P (pos (near (suc b) d)), neg-N (pos (near (suc b) d)))
 
--- where a / d is q and a half it is q + 1, and of the negative −(q + 1)
-half : (a d q : ℕ) → 0 < d → 2 * a ≡ (2 * q + 1) * d → near a d ≡ suc q
-half a d q h e = sym (near-is a d (suc q) h (omega arith) (omega arith))
-
+-- above zero it is q + 1
 pub half-above : (a d q : ℕ) → 0 < d → 2 * a ≡ (2 * q + 1) * d → roundDiv (pos a) (pos d) ≡ pos (suc q)
 unfolding roundDiv
 half-above a d q h e = ap pos (half a d q h e)
-
-pub half-below : (a d q : ℕ) → 0 < d → 2 * suc a ≡ (2 * q + 1) * d → roundDiv (negsuc a) (pos d) ≡ negsuc q
-unfolding roundDiv
-half-below a d q h e = ap (λ (m : ℕ). negℤ (pos m)) (half (suc a) d q h e)
 
 -- the error is at most half the divisor
 pub round-near : (a d : ℤ) → pos 0 <ℤ d → off a d (roundDiv a d) ≤ P d
