@@ -2,9 +2,10 @@
 // Uses `integers` for the one rounding division.
 ghost use mathlib.Core.Path.{_≡_};
 ghost use lib.IntN.{pos};
-ghost use Rattle.analog.specs.AnalogCode.{upperOf, lowerOf, fraction, fullScale, lowest, held, roundedOf, codeOf, CodeFits};
+ghost use Rattle.analog.specs.AnalogCode.{upperOf, lowerOf, fraction, fullScale, lowest, held, onScale, codedOf, CodeFits};
 ghost use Rattle.analog.specs.Drives.{floatOf, driveOf, driveValue, analogValue, Unrounded};
-ghost use Rattle.integers.specs.Fraction.{Same};
+ghost use Rattle.integers.specs.Fraction.{Same, rounded};
+use integers::Rounded;
 
 // What the analog line is driven with.
 pub enum Drive {
@@ -14,6 +15,14 @@ pub enum Drive {
     Volts(f32),
     // A current, up to 20 mA.
     Milliamps(f32),
+}
+
+// An analog code.
+pub struct Coded {
+    // Held to the ends of its format.
+    pub code: i32,
+    // Whether a half decided, before the code was held.
+    pub half: bool,
 }
 
 // The upper number of f, its sign turned where the end is below the start.
@@ -70,21 +79,19 @@ fn hold(lo: i64, hi: i64, z: i64) -> i64
 }
 
 // f on the format's scale, rounded, before it is held.
-fn rounded(format: u32, start: i32, end: i32, r: i32) -> i64
-    ensures { λ z. ⌜ z ≡ roundedOf format (fraction start end r) ⌝ }
+fn rounded(format: u32, start: i32, end: i32, r: i32) -> Rounded
+    ensures { λ z. ⌜ z ≡ rounded (onScale format (fraction start end r)) ⌝ }
 {
     integers::round_div(full_scale(format) * upper(start, end, r), lower(start, end))
 }
 
 // The code of the result r between start and end in an analog format: 0 is ±10 V, 1 is 0..20 mA, 2 and above are 4..20 mA.
-pub fn code(format: u32, start: i32, end: i32, r: i32) -> i32
-    ensures { λ z. ⌜ z ≡ codeOf format start end r ⌝ }
+pub fn code(format: u32, start: i32, end: i32, r: i32) -> Coded
+    ensures { λ z. ⌜ z ≡ codedOf format start end r ⌝ }
 {
-    hold(
-        lowest_code(format),
-        full_scale(format),
-        rounded(format, start, end, r),
-    ) as i32
+    let z = rounded(format, start, end, r);
+    let code = hold(lowest_code(format), full_scale(format), z.value) as i32;
+    Coded { code, half: z.half }
 }
 
 // code * 10 / 32768 volts.

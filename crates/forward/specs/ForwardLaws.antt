@@ -38,7 +38,7 @@ use Rattle.parameters.specs.StoreLaws.{alike-sym, alike-trans, stored-layout, s
 use Rattle.parameters.specs.Valid.{Valid}
 use Rattle.parameters.specs.ValidLaws.{loads, valid-loads}
 use Rattle.reading.specs.AlikeLaws.{basis-alike, reading-alike}
-use Rattle.reading.specs.Reading.{acceptsOf, directedAt, basisOf, measuredAt, readingOf}
+use Rattle.reading.specs.Reading.{acceptsOf, directedAt, basisOf, measuredAt, readingOf, noHalves}
 use Rattle.settings.specs.AlikeLaws.{layout-alike, direction-alike, mode-alike, used-alike, points-alike}
 use Rattle.settings.specs.Settings.{scalingOf, pointsOf}
 use Rattle.settings.specs.SettingsLaws.{points-ordered, point-y}
@@ -51,7 +51,7 @@ use Rattle.runs.specs.Book.{Book, freshBook, takes, resets, bookInput, bookStep
 use Rattle.runs.specs.BookLaws.{Matches, book-run, book-fresh}
 use Rattle.runs.specs.Demand3Laws.{good-run, kept-run}
 use Rattle.runs.specs.KeptLaws.{Kept, kept-fresh}
-use Rattle.runs.specs.Run.{runOf, lastAnswer}
+use Rattle.runs.specs.Run.{runOf, unasked, lastAnswer}
 use Rattle.runs.specs.RunLaws.{answer-own, last-own, last-state, own-result, own-error}
 use Rattle.forward.specs.Forward.{fallsAfter, yFalls, Forward, positionAt, readingAt, ForwardReadings, ForwardRuns, resetBy, resetIn, followedBy, ForwardTelegrams}
 use Rattle.forward.specs.RisingLaws.{neverFallsFrom, NeverFalls, curve-rises}
@@ -192,8 +192,8 @@ module _ {t : List ℤ} (v : Valid t) (es : List Event) where
     last-reading : (lastAnswer t es .result ≡ readingAt s (bookOf t es .telegram) .result) × (lastAnswer t es .error ≡ readingAt s (bookOf t es .telegram) .error)
     unfolding answerOf
     last-reading =
-        let o = last-own (answerOf (freshOf t) 0) es (answer-own (freshOf t) 0) in
-        rw (own-result o, own-error o, last-state (answerOf (freshOf t) 0) es, end-reading) (refl, refl)
+        let o = last-own (unasked (freshOf t)) es (answer-own (freshOf t) 0 noHalves) in
+        rw (own-result o, own-error o, last-state (unasked (freshOf t)) es, end-reading) (refl, refl)
 
 -- both are read under the table in force at the end of the first
 pub runs : ForwardRuns

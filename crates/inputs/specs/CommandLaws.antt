@@ -1,8 +1,8 @@
 -- Every state that a command leaves is good: its table is valid, and its result is from −Z to Z.
 -- A reset stores a position up to Z, a teach stores the result, and nothing else writes the table. Paper 01, "Events and inputs".
 -- First the cases of a command and an input, as laws for any claim about the state they leave; last, the inputs one by one.
-use mathlib.Core.Path.{_≡_, refl, sym, subst}
-use mathlib.Core.Bool.{Bool, true, false, not, _||_}
+use mathlib.Core.Path.{_≡_, refl}
+use mathlib.Core.Bool.{Bool, true, false, cond, not, _&&_, _||_}
 use mathlib.Core.List.{List}
 use Prim.Native.Nat.{ℕ, zero, suc, _≤_, _<_}
 use native.Mathlib.Omega.{arith}
@@ -17,12 +17,14 @@ use Rattle.settings.specs.declared.Action.{Action}
 use Rattle.settings.specs.declared.Action.the-variants.{None, Reset, Freeze, ClearLocks, ClearExtremes, Teach}
 use Rattle.settings.specs.InputLaws.{aimed}
 use Rattle.settings.specs.Settings.{isReset, isTeach, Aimed, inputAt}
+use Rattle.reading.specs.declared.Halves.{Halves}
+use Rattle.reading.specs.Reading.{noHalves}
 use Rattle.state.specs.declared.State.{State}
-use Rattle.state.specs.State.{withTable, errorOf}
+use Rattle.state.specs.State.{withTable, errorOf, halvesIn}
 use Rattle.state.specs.Valid.{Good}
 use Rattle.state.specs.ValidLaws.{good-reread}
-use Rattle.inputs.specs.Commands.{Acted, acted, resetRefusal, resetOf, clearLocksOf, clearExtremesOf, teachOf, refusalOf, carriedOut, commandOf}
-use Rattle.inputs.specs.Levels.{edgeAt, inputOf, commandsOf}
+use Rattle.inputs.specs.Commands.{Acted, acted, resetRefusal, resetOf, clearLocksOf, clearExtremesOf, teachOf, refusalOf, carriedOut, marksAfter, commandOf}
+use Rattle.inputs.specs.Levels.{edgeAt, inputOf, commandsOf, marksAt, marksOf}
 
 -- ---- the cases
 
@@ -72,6 +74,17 @@ pub by-input : (l i : ℕ) (x : Acted) (Q : State → Type 0) →
 unfolding inputOf
 by-input l i x Q acts rests = by-test (edgeAt (x .state) l i) _ x (λ (y : Acted). Q (y .state)) acts (λ _. rests)
 
+-- ---- the marks
+
+-- a refused command keeps them
+pub refused-keeps : (a : Action) (s : State) (h : Halves) → eqb (refusalOf a s) 0 ≡ false → marksAfter a s h ≡ h
+unfolding marksAfter
+refused-keeps a s h e = rw e (go (isReset a))
+  where
+    go : (b : Bool) → cond (b && false) (halvesIn (resetOf s)) h ≡ h
+    go true = refl
+    go false = refl
+
 -- ---- good states
 
 pub good-command : (a : Action) (s : State) → Aimed a → Good s → Good (commandOf a s .state)
@@ -100,6 +113,15 @@ inputsOf l (suc n) x = inputOf l n (inputsOf l n x)
 pub all-inputs : (s : State) (l : ℕ) → inputsOf l 3 (acted s 0) ≡ commandsOf s l
 unfolding inputsOf commandsOf
 all-inputs s l = refl
+
+-- K7: the marks after them
+unfoldable pub marksUpTo : ℕ → ℕ → Acted → Halves
+marksUpTo l zero x = noHalves
+marksUpTo l (suc n) x = marksAt l n (inputsOf l n x) (marksUpTo l n x)
+
+pub all-marks : (s : State) (l : ℕ) → marksUpTo l 3 (acted s 0) ≡ marksOf s l
+unfolding marksUpTo inputsOf marksOf
+all-marks s l = refl
 
 pub good-inputs : (l n : ℕ) (x : Acted) → Good (x .state) → Good (inputsOf l n x .state)
 unfolding inputsOf

@@ -1,7 +1,7 @@
 -- The commands: what an action does to a state, and when it is refused; a refused one changes nothing.
 -- Paper 01, "Events and inputs", second paragraph, and "Where each check sits", command. Assumes nothing.
 use mathlib.Core.List.{List}
-use mathlib.Core.Bool.{Bool, true, false, cond, not, _&&_, _||_}
+use mathlib.Core.Bool.{Bool, cond, not, _&&_, _||_}
 use Prim.Native.Nat.{ℕ}
 use lib.Dec.{eqb, ltb}
 use lib.IntN.{ℤ, pos}
@@ -9,13 +9,15 @@ use Rattle.integers.specs.Limit.{Z}
 use Rattle.parameters.specs.Slots.{withOffset, withPreselection}
 use Rattle.settings.specs.declared.Action.{Action}
 use Rattle.settings.specs.declared.Action.the-variants.{None, Reset, Freeze, ClearLocks, ClearExtremes, Teach}
+use Rattle.settings.specs.Settings.{isReset}
+use Rattle.reading.specs.declared.Halves.{Halves}
 use Rattle.switching.specs.Switching.{allUnlocked}
 use Rattle.state.specs.declared.Extremes.{Extremes}
 use Rattle.state.specs.declared.Live.{Live}
 use Rattle.state.specs.declared.Outcome.{Outcome}
 use Rattle.state.specs.declared.State.{State}
 use Rattle.state.specs.Extremes.{noExtremes, bothAt, errorIn}
-use Rattle.state.specs.State.{stateOf, setReading, setSwitches, withTable, errorOf, rereadOf}
+use Rattle.state.specs.State.{stateOf, setReading, setSwitches, withTable, errorOf, halvesIn, rereadOf}
 
 -- what one command or several leave: the state, and the refusal of the lowest refused input or 0
 pub record Acted : Type 0 where
@@ -79,6 +81,10 @@ carriedOut Freeze s = s
 carriedOut ClearLocks s = clearLocksOf s
 carriedOut ClearExtremes s = clearExtremesOf s
 carriedOut (Teach k) s = teachOf s k
+
+-- K7, "a reset carried out" brings the marks of its result; any other command leaves them
+unfoldable pub marksAfter : Action → State → Halves → Halves
+marksAfter a s h = cond (isReset a && eqb (refusalOf a s) 0) (halvesIn (resetOf s)) h
 
 -- a refused command changes nothing
 unfoldable pub commandOf : Action → State → Acted

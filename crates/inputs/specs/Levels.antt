@@ -1,5 +1,5 @@
 -- Levels: what a change of the inputs' levels makes act, and the commands of the three inputs, each on what the earlier ones left.
--- Paper 01, "Events and inputs", second paragraph. Inputs are i = 0..2. Assumes nothing.
+-- Paper 01, "Events and inputs", second paragraph; paper 02, K7, the marks. Inputs are i = 0..2. Assumes nothing.
 use mathlib.Core.List.{List}
 use mathlib.Core.Bool.{Bool, true, false, cond, not, _&&_}
 use Prim.Native.Nat.{ℕ, _/_, _%_, _^_}
@@ -8,8 +8,10 @@ use lib.IntN.{ℤ}
 use Rattle.settings.specs.declared.Config.{Config}
 use Rattle.settings.specs.declared.Config.the-variants.{Low, High, Rising, Falling}
 use Rattle.settings.specs.Settings.{inputAt}
+use Rattle.reading.specs.declared.Halves.{Halves}
+use Rattle.reading.specs.Reading.{noHalves}
 use Rattle.state.specs.declared.State.{State}
-use Rattle.inputs.specs.Commands.{Acted, acted, commandOf}
+use Rattle.inputs.specs.Commands.{Acted, acted, marksAfter, commandOf}
 
 -- the level of input i + 1, true for high
 abbrev pub highAt : ℕ → ℕ → Bool
@@ -45,6 +47,14 @@ inputActs i x =
 unfoldable pub inputOf : ℕ → ℕ → Acted → Acted
 inputOf l i x = cond (edgeAt (x .state) l i) (inputActs i x) x
 
+-- K7: the marks after input i + 1, from those before it
+unfoldable pub marksAt : ℕ → ℕ → Acted → Halves → Halves
+marksAt l i x h = cond (edgeAt (x .state) l i) (marksAfter (inputAt (x .state .table) i .action) (x .state) h) h
+
 -- "the actions of inputs 1, 2, 3 in that order"
 unfoldable pub commandsOf : State → ℕ → Acted
 commandsOf s l = inputOf l 2 (inputOf l 1 (inputOf l 0 (acted s 0)))
+
+-- K7: the marks of the last reset carried out, none where there is none
+unfoldable pub marksOf : State → ℕ → Halves
+marksOf s l = marksAt l 2 (inputOf l 1 (inputOf l 0 (acted s 0))) (marksAt l 1 (inputOf l 0 (acted s 0)) (marksAt l 0 (acted s 0) noHalves))

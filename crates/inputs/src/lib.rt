@@ -5,15 +5,16 @@ use settings::Config;
 use state::Extremes;
 use state::Live;
 use state::Outcome;
+use state::Worked;
 ghost use mathlib.Core.Path.{_≡_};
 ghost use Prim.Native.Nat.{_<_, _≤_};
 ghost use Rattle.integers.specs.Limit.{Z};
 ghost use Rattle.parameters.specs.Valid.{Valid};
 ghost use Rattle.settings.specs.Settings.{Aimed, inputAt};
-ghost use Rattle.state.specs.State.{stateOf};
+ghost use Rattle.state.specs.State.{stateOf, halvesIn};
 ghost use Rattle.state.specs.Valid.{Good};
-ghost use Rattle.inputs.specs.Commands.{leftBy, resetRefusal, resetOf, locksCleared, extremesAt, extremesCleared, teachRefusal, teachOf, refusalOf, carriedOut, commandOf};
-ghost use Rattle.inputs.specs.Levels.{highAt, onRise, actsOn, edgeIn, firstNote, inputActs, commandsOf};
+ghost use Rattle.inputs.specs.Commands.{leftBy, resetRefusal, resetOf, locksCleared, extremesAt, extremesCleared, teachRefusal, teachOf, refusalOf, carriedOut, marksAfter, commandOf};
+ghost use Rattle.inputs.specs.Levels.{highAt, onRise, actsOn, edgeIn, firstNote, inputActs, commandsOf, marksOf};
 ghost use Rattle.inputs.specs.Freeze.{lasts, freezes, frozen};
 
 // Why a reset is refused: 13 before 12, or 0.
@@ -40,9 +41,10 @@ fn teach_refusal(seen: bool, error: u32) -> u8
 }
 
 // Reset: the offset becomes the position after direction.
-fn reset(t: &mut [i32; 104], l: Live) -> Live
+fn reset(t: &mut [i32; 104], l: Live) -> Worked
     requires { ⌜ Valid (now t) × (l .basis .directed ≤ Z) ⌝ }
-    ensures { λ r. ⌜ stateOf (now (t .exit)) r ≡ resetOf (stateOf (now (t .entry)) l) ⌝ }
+    ensures is { λ r. ⌜ stateOf (now (t .exit)) (r .live) ≡ resetOf (stateOf (now (t .entry)) l) ⌝ }
+    ensures marks { λ r. ⌜ r .halves ≡ halvesIn (resetOf (stateOf (now (t .entry)) l)) ⌝ }
 {
     let b = l.basis;
     parameters::store_offset(t, b.directed as i32);
@@ -110,37 +112,54 @@ fn refusal(a: Action, t: &[i32; 104], l: Live) -> u8
     }
 }
 
-// An action that is not refused, carried out.
-fn carry_out(a: Action, t: &mut [i32; 104], l: Live) -> Live
-    requires { ⌜ Valid (now t) × (Aimed a × (refusalOf a (stateOf (now t) l) ≡ 0)) ⌝ }
-    ensures { λ r. ⌜ stateOf (now (t .exit)) r ≡ carriedOut a (stateOf (now (t .entry)) l) ⌝ }
+// Other live values, with the marks as they were.
+fn unmarked(live: Live, w: Worked) -> Worked
+    ensures { λ r. ⌜ r ≡ record { live = live; halves = w .halves } ⌝ }
 {
+    let halves = w.halves;
+    Worked { live, halves }
+}
+
+// An action that is not refused, carried out; a reset alone brings marks.
+fn carry_out(a: Action, t: &mut [i32; 104], w: Worked) -> Worked
+    requires { ⌜ Valid (now t) × (Aimed a × (refusalOf a (stateOf (now t) (w .live)) ≡ 0)) ⌝ }
+    ensures is { λ r. ⌜ stateOf (now (t .exit)) (r .live) ≡ carriedOut a (stateOf (now (t .entry)) (w .live)) ⌝ }
+    ensures marks { λ r. ⌜ r .halves ≡ marksAfter a (stateOf (now (t .entry)) (w .live)) (w .halves) ⌝ }
+{
+    let l = w.live;
     match a {
-        Action::None => l,
+        Action::None => w,
         Action::Reset => reset(t, l),
-        Action::Freeze => l,
-        Action::ClearLocks => clear_locks(l),
-        Action::ClearExtremes => clear_extremes(l),
-        Action::Teach(k) => teach(t, l, k),
+        Action::Freeze => w,
+        Action::ClearLocks => unmarked(clear_locks(l), w),
+        Action::ClearExtremes => unmarked(clear_extremes(l), w),
+        Action::Teach(k) => unmarked(teach(t, l, k), w),
     }
 }
 
 // A command: carried out, or refused with its number.
-fn command(a: Action, t: &mut [i32; 104], l: Live) -> Outcome
+fn command(a: Action, t: &mut [i32; 104], w: Worked) -> Outcome
     requires { ⌜ Valid (now t) × Aimed a ⌝ }
-    ensures { λ r. ⌜ leftBy (now (t .exit)) r ≡ commandOf a (stateOf (now (t .entry)) l) ⌝ }
+    ensures is { λ r. ⌜ leftBy (now (t .exit)) r ≡ commandOf a (stateOf (now (t .entry)) (w .live)) ⌝ }
+    ensures marks { λ r. ⌜ r .halves ≡ marksAfter a (stateOf (now (t .entry)) (w .live)) (w .halves) ⌝ }
 {
+    let l = w.live;
     let note = refusal(a, t, l);
     if note != 0 {
+        let halves = w.halves;
         return Outcome {
             live: l,
-            note: note,
+            note,
+            halves,
         };
     }
-    let next = carry_out(a, t, l);
+    let next = carry_out(a, t, w);
+    let live = next.live;
+    let halves = next.halves;
     Outcome {
-        live: next,
+        live,
         note: 0,
+        halves,
     }
 }
 
@@ -199,25 +218,35 @@ fn first_note(n: u8, m: u8) -> u8
 // Input i + 1 acts on what the inputs before it left.
 fn input(t: &mut [i32; 104], x: Outcome, i: usize) -> Outcome
     requires { ⌜ Valid (now t) × (i < 3) ⌝ }
-    ensures { λ r. ⌜ leftBy (now (t .exit)) r ≡ inputActs i (leftBy (now (t .entry)) x) ⌝ }
+    ensures is { λ r. ⌜ leftBy (now (t .exit)) r ≡ inputActs i (leftBy (now (t .entry)) x) ⌝ }
+    ensures marks { λ r. ⌜ r .halves ≡ marksAfter (inputAt (now (t .entry)) i .action) (stateOf (now (t .entry)) (x .live)) (x .halves) ⌝ }
 {
-    let l = x.live;
+    let was = x.live;
+    let marks = x.halves;
+    let w = Worked {
+        live: was,
+        halves: marks,
+    };
     let a = settings::action_at(t, i);
-    let y = command(a, t, l);
+    let y = command(a, t, w);
     let note = first_note(x.note, y.note);
-    let next = y.live;
-    Outcome {
-        live: next,
-        note: note,
-    }
+    let live = y.live;
+    let halves = y.halves;
+    Outcome { live, note, halves }
 }
 
 // The commands of inputs 1, 2, 3 in that order, of those that new levels make act.
 pub fn act(t: &mut [i32; 104], l: Live, levels: u8) -> Outcome
     requires { ⌜ Good (stateOf (now t) l) ⌝ }
-    ensures { λ r. ⌜ leftBy (now (t .exit)) r ≡ commandsOf (stateOf (now (t .entry)) l) levels ⌝ }
+    ensures is { λ r. ⌜ leftBy (now (t .exit)) r ≡ commandsOf (stateOf (now (t .entry)) l) levels ⌝ }
+    ensures marks { λ r. ⌜ r .halves ≡ marksOf (stateOf (now (t .entry)) l) levels ⌝ }
 {
-    let mut x = Outcome { live: l, note: 0 };
+    let halves = reading::no_halves();
+    let mut x = Outcome {
+        live: l,
+        note: 0,
+        halves,
+    };
     let mut i: usize = 0;
     while i < 3 {
         let n = x.live;

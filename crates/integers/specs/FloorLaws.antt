@@ -1,4 +1,4 @@
--- The laws of `floorMod`. Assumes nothing.
+-- The laws of `floorMod`, and of the quotient that belongs to it. Assumes nothing.
 use Prim.Native.Nat.{ℕ, zero, suc, _+_, _-_, _*_, _/_, _%_, _≤_, _<_}
 use mathlib.Core.Path.{_≡_, refl, sym, ap, _∙_}
 use mathlib.Core.Logic.{_⊎_, inl, inr}
@@ -10,8 +10,8 @@ use lib.Arith.{digits-mod}
 use lib.IntN.{ℤ, pos, negsuc, negℤ, _+ℤ_, _*ℤ_}
 use lib.Signed.{leZ, ltZ, remZ, shrZ, _≤ℤ_, _<ℤ_}
 use Rattle.integers.specs.Int.{P}
-use Rattle.integers.specs.IntLaws.{ints, neg-P, neg-N, add-is}
-use Rattle.integers.specs.RingLaws.{var, _⊕_, _⊗_, neg, val, ring, ring-to, le-in, mul-mono}
+use Rattle.integers.specs.IntLaws.{ints, neg-P, neg-N, add-is, eq-of}
+use Rattle.integers.specs.RingLaws.{var, lit, _⊕_, _⊗_, neg, val, ring, ring-to, le-in, lt-in, mul-mono}
 use Rattle.integers.specs.Round.{floorMod}
 
 -- one more: the remainder is one more, or turns over
@@ -82,6 +82,45 @@ pub floor-only : (a r k m : ℤ) → pos 0 <ℤ r → a ≡ k *ℤ r +ℤ m → 
 floor-only a r k m h e hm hm′ =
     let f = floor-range a r h in
     same-rest k (shrZ a (P r)) m (floorMod a r) r hm hm′ (f .0) (f .1) (sym e ∙ floor-split a r h)
+
+-- the only quotient rounded down
+pub floor-is : (a : ℤ) (r : ℕ) (q : ℤ) → 0 < r → (q *ℤ pos r) ≤ℤ a → a <ℤ (q *ℤ pos r +ℤ pos r) → shrZ a r ≡ q
+floor-is a r q hr low high = go (leZ k q) (leZ q k) refl refl
+  where
+    k : ℤ
+    k = shrZ a r
+
+    m : ℤ
+    m = floorMod a (pos r)
+
+    split : a ≡ k *ℤ pos r +ℤ m
+    split = floor-split a (pos r) (omega (arith, ints))
+
+    range : (pos 0 ≤ℤ m) × (m <ℤ pos r)
+    range = floor-range a (pos r) (omega (arith, ints))
+
+    -- where x is above y, x r is at least y r + r
+    step : (x y : ℤ) → leZ x y ≡ false → ((y +ℤ pos 1) *ℤ pos r) ≤ℤ (x *ℤ pos r)
+    step x y h = mul-mono (y +ℤ pos 1) x (pos r) (omega (arith, ints, add-is y (pos 1))) (omega (arith, ints))
+
+    go : (s t : Bool) → leZ k q ≡ s → leZ q k ≡ t → k ≡ q
+    go true true hs ht = eq-of k q (omega (arith, ints))
+    go false t hs ht =
+        absurd (omega (
+          arith,
+          ring-to (var a) (var k ⊗ lit r ⊕ var m) split,
+          le-in (lit 0) (var m) (range .0),
+          lt-in (var a) (var q ⊗ lit r ⊕ lit r) high,
+          le-in ((var q ⊕ lit 1) ⊗ lit r) (var k ⊗ lit r) (step k q hs),
+        ))
+    go true false hs ht =
+        absurd (omega (
+          arith,
+          ring-to (var a) (var k ⊗ lit r ⊕ var m) split,
+          lt-in (var m) (lit r) (range .1),
+          le-in (var q ⊗ lit r) (var a) low,
+          le-in ((var k ⊕ lit 1) ⊗ lit r) (var q ⊗ lit r) (step q k ht),
+        ))
 
 -- ---- by the remainder of division toward 0, as code has it
 

@@ -1,9 +1,11 @@
 -- Fractions as paper 01 has them: a pair of whole numbers, the lower above zero wherever one is used; two are compared by cross-multiplying.
 -- Opening: "A fraction in a statement is a pair of whole numbers". Assumes nothing.
 use mathlib.Core.Path.{_≡_}
+use mathlib.Core.Bool.{Bool}
 use Prim.Native.Nat.{ℕ, _+_, _*_, _≤_, _<_}
 use lib.IntN.{ℤ, pos, negℤ, natAbs, _-ℤ_, _*ℤ_}
-use Rattle.integers.specs.Round.{roundDiv}
+use Rattle.integers.specs.declared.Rounded.{Rounded}
+use Rattle.integers.specs.Round.{roundDiv, halved, rounding}
 
 pub record Frac : Type 0 where
   pub num : ℤ
@@ -34,6 +36,13 @@ minus q = frac (negℤ (q .num)) (q .den)
 -- the whole fraction rounded once
 abbrev pub nearest : Frac → ℤ
 nearest q = roundDiv (q .num) (pos (q .den))
+
+-- K7: whether a half decides it, and the value and its mark together
+abbrev pub halfway : Frac → Bool
+halfway q = halved (q .num) (pos (q .den))
+
+abbrev pub rounded : Frac → Rounded
+rounded q = rounding (q .num) (pos (q .den))
 
 -- |u − w| times both lower numbers, and |u − w|
 abbrev pub gap : Frac → Frac → ℕ

@@ -10,6 +10,9 @@ pub mod TestLaws
 pub mod IntLaws
 pub mod RingLaws
 pub mod RoundLaws
+pub mod HalfLaws
 pub mod OrderLaws
 pub mod FloorLaws
+pub mod Upward
+pub mod UpwardLaws
 pub mod TwosComplementLaws

@@ -13,13 +13,13 @@ use Rattle.integers.specs.Round.{roundDiv}
 
 -- ---- on ℕ: ⌊n / d + 1/2⌋ is the q with 2 q d ≤ 2 n + d < 2 q d + 2 d
 
-abbrev near : ℕ → ℕ → ℕ
+abbrev pub near : ℕ → ℕ → ℕ
 near a d = (2 * a + d) / (2 * d)
 
-near-low : (a d : ℕ) → 2 * (near a d * d) ≤ 2 * a + d
+pub near-low : (a d : ℕ) → 2 * (near a d * d) ≤ 2 * a + d
 near-low a d = omega (arith, div-add-mod' (2 * a + d) (2 * d))
 
-near-high : (a d : ℕ) → 0 < d → 2 * a < 2 * (near a d * d) + d
+pub near-high : (a d : ℕ) → 0 < d → 2 * a < 2 * (near a d * d) + d
 near-high a d h =
     let pos2 : 0 < 2 * d = omega arith in
     omega (arith, div-add-mod' (2 * a + d) (2 * d), mod-lt (2 * a + d) pos2)

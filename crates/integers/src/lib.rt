@@ -3,30 +3,48 @@
 pub mod twos_complement; // twos_complement.rt: signed words of 32 bits and their bits
 
 ghost use mathlib.Core.Path.{_≡_};
-ghost use Rattle.integers.specs.Round.{roundDiv, floorMod};
+ghost use Rattle.integers.specs.Round.{rounding, floorMod};
 
 // Z, the largest number that the panel shows and stores.
 pub const Z: i64 = 99_999_999;
 
-// n / d to the nearest whole number, halves away from zero; 0 where d is not above 0.
-pub fn round_div(n: i64, d: i64) -> i64
-    ensures { λ r. ⌜ r ≡ roundDiv n d ⌝ }
+// A fraction rounded.
+pub struct Rounded {
+    // The nearest whole number, halves away from zero.
+    pub value: i64,
+    // Whether a half decided: the fraction lies exactly between two whole numbers.
+    pub half: bool,
+}
+
+// n / d rounded, and whether a half decided; 0 and no where d is not above 0.
+pub fn round_div(n: i64, d: i64) -> Rounded
+    ensures { λ r. ⌜ r ≡ rounding n d ⌝ }
 {
     if d <= 0 {
-        return 0;
+        return Rounded {
+            value: 0,
+            half: false,
+        };
     }
     let q = n / d;
     let r = n % d;
     if r >= 0 {
-        if r >= d - r {
-            return q + 1;
+        let left = d - r;
+        let half = r == left;
+        if r >= left {
+            let value = q + 1;
+            return Rounded { value, half };
         }
-        return q;
+        return Rounded { value: q, half };
     }
-    if d + r <= 0 - r {
-        return q - 1;
+    let left = d + r;
+    let over = 0 - r;
+    let half = left == over;
+    if left <= over {
+        let value = q - 1;
+        return Rounded { value, half };
     }
-    q
+    Rounded { value: q, half }
 }
 
 // d modulo r, from 0 to r - 1; 0 where r is not above 0.

@@ -27,8 +27,8 @@ fn kind_letter(e: Event) -> u8
     }
 }
 
-// The digit of an output's level.
-fn level_digit(high: bool) -> u8
+// The digit of an output's level, 1 for high; or of a mark, 1 for yes.
+pub fn level_digit(high: bool) -> u8
     ensures { λ r. ⌜ r ≡ levelDigit high ⌝ }
 {
     if high {

@@ -1,7 +1,8 @@
 -- Values next to the mistakes that paper 01 calls tempting: rounding after the sum, rounding the rise alone, a remainder cut toward zero.
 use mathlib.Core.Path.{_≡_, refl}
 use lib.IntN.{pos, negsuc}
-use Rattle.integers.specs.Round.{roundDiv, floorMod}
+use mathlib.Core.Bool.{true}
+use Rattle.integers.specs.Round.{roundDiv, halved, rounding, floorMod}
 use Rattle.measurement.specs.Curve.{lineValue}
 use Rattle.measurement.specs.Measure.{distanceOf, scaledOf}
 
@@ -10,9 +11,9 @@ pub additive-after-rounding : scaledOf (pos 3) 150000 100000 (negsuc 4) ≡ pos 
 unfolding scaledOf roundDiv
 additive-after-rounding = refl
 
--- from (−100, −50) to (0, 0), at −3: −1.5 as a whole
-pub whole-fraction-rounded : lineValue (negsuc 99) (negsuc 49) (pos 0) (pos 0) (negsuc 2) ≡ negsuc 1
-unfolding lineValue roundDiv
+-- from (−100, −50) to (0, 0), at −3: −1.5 as a whole, a half
+pub whole-fraction-rounded : lineValue (negsuc 99) (negsuc 49) (pos 0) (pos 0) (negsuc 2) ≡ record { value = negsuc 1; half = true }
+unfolding lineValue rounding roundDiv halved
 whole-fraction-rounded = refl
 
 -- 3 − 5 modulo 360

@@ -10,7 +10,8 @@ use lib.ListN.{getD}
 use lib.Signed.{leZ, ltZ, nonNeg}
 use Rattle.measurement.specs.declared.Found.{Found}
 use Rattle.measurement.specs.declared.Found.the-variants.{At, Nothing}
-use Rattle.integers.specs.Fraction.{Frac, Ratio, whole, minus, nearest}
+use Rattle.integers.specs.declared.Rounded.{Rounded}
+use Rattle.integers.specs.Fraction.{Frac, Ratio, whole, minus, nearest, rounded}
 
 -- a control point
 pub record Point : Type 0 where
@@ -42,9 +43,9 @@ line p p₁ q =
       den = natAbs (p₁ .x -ℤ p .x) * q .den;
     }
 
--- "the whole fraction rounded once": the line from (x, y) to (x₁, y₁) at the whole number v
-unfoldable pub lineValue : ℤ → ℤ → ℤ → ℤ → ℤ → ℤ
-lineValue x y x₁ y₁ v = nearest (line (record { x = x; y = y }) (record { x = x₁; y = y₁ }) (whole v))
+-- "the whole fraction rounded once": the line from (x, y) to (x₁, y₁) at the whole number v, and K7's mark
+unfoldable pub lineValue : ℤ → ℤ → ℤ → ℤ → ℤ → Rounded
+lineValue x y x₁ y₁ v = rounded (line (record { x = x; y = y }) (record { x = x₁; y = y₁ }) (whole v))
 
 -- from p on: the line to the next point, what follows it, or the last point's y beyond the end
 unfoldable pub rightOf : Point → List Point → Frac → Frac
@@ -69,6 +70,10 @@ curve (suc (suc m)) ps q = fourQuadrants ps q
 -- step 4: the straight line's whole fraction rounded once; with the mode off, v
 unfoldable pub linearizedOf : ℕ → List Point → ℤ → ℤ
 linearizedOf m ps v = nearest (curve m ps (whole v))
+
+-- K7: the same with its mark, which is no with the mode off, beyond the end points and at a control point (MarkLaws)
+unfoldable pub linearizedBy : ℕ → List Point → ℤ → Rounded
+linearizedBy m ps v = rounded (curve m ps (whole v))
 
 -- |change of y| ÷ change of x
 abbrev pub slope : Point → Point → Ratio

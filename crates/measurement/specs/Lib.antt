@@ -7,3 +7,4 @@ pub mod AccuracyLaws
 pub mod CurveLaws
 pub mod SearchLaws
 pub mod MeasureLaws
+pub mod MarkLaws

@@ -11,19 +11,20 @@ use Rattle.integers.specs.ChoiceLaws.{by-test}
 use Rattle.integers.specs.Int.{Within}
 use Rattle.integers.specs.IntLaws.{ints, within, wider, add-within, sub-within, mul-within}
 use Rattle.integers.specs.RingLaws.{var, lit, _⊕_, ring}
-use Rattle.integers.specs.Round.{roundDiv, floorMod}
+use Rattle.integers.specs.declared.Rounded.{Rounded}
+use Rattle.integers.specs.Round.{roundDiv, rounding, floorMod}
 use Rattle.integers.specs.RoundLaws.{round-within}
 use Rattle.integers.specs.FloorLaws.{floor-range}
-use Rattle.measurement.specs.Measure.{distanceOf, scaledOf}
+use Rattle.measurement.specs.Measure.{distanceOf, scaledOf, scaledBy}
 
 -- A is added after rounding
 pub additive-last : (d : ℤ) (f g : ℕ) (A : ℤ) → scaledOf d f g A ≡ scaledOf d f g (pos 0) +ℤ A
 unfolding scaledOf
 additive-last d f g A = let q = roundDiv (d *ℤ pos f) (pos g) in ring (var q ⊕ var A) (var q ⊕ lit 0 ⊕ var A) (omega arith)
 
--- the sum as the code makes it, from the quotient q
-pub scaled-is : (d : ℤ) (f g : ℕ) (A q : ℤ) → q ≡ roundDiv (d *ℤ pos f) (pos g) → q +ℤ A ≡ scaledOf d f g A
-unfolding scaledOf
+-- the sum as the code makes it, from the rounded quotient, whose mark stays
+pub scaled-is : (d : ℤ) (f g : ℕ) (A : ℤ) (q : Rounded) → q ≡ rounding (d *ℤ pos f) (pos g) → _≡_ {A = Rounded} (record { value = q .value +ℤ A; half = q .half }) (scaledBy d f g A)
+unfolding scaledBy scaledOf rounding
 scaled-is d f g A q e = rw e
 
 not-zero : (n : ℕ) → T (not (eqb n 0)) → 0 < n

@@ -10,18 +10,20 @@ use native.Mathlib.Numerals.{add-one, unary-clauses}
 use native.Mathlib.Omega.{arith}
 use lib.Dec.{lit≤, T, leb, leb→le, nleb→lt}
 use lib.IntN.{ℤ, pos, negsuc, natAbs, _+ℤ_, _-ℤ_, _*ℤ_}
-use lib.ListN.{length, getD}
-use lib.Signed.{leZ, ltZ, _≤ℤ_, _<ℤ_}
+use lib.ListN.{getD}
+use lib.Signed.{leZ, ltZ, _<ℤ_}
 use Rattle.integers.specs.Limit.{Z}
 use Rattle.integers.specs.ChoiceLaws.{by-test, either, is-true, is-false}
 use Rattle.integers.specs.IntLaws.{ints, excl, within, wider, add-within, sub-within, mul-within}
 use Rattle.integers.specs.Int.{Within}
 use Rattle.integers.specs.RingLaws.{var, lit, _⊕_, _⊖_, _⊗_, neg, ring, abs-ex, le-ex, lt-ex, le-by, nle→lt, le→nlt}
-use Rattle.integers.specs.Round.{roundDiv}
+use Rattle.integers.specs.declared.Rounded.{Rounded}
+use Rattle.integers.specs.Round.{rounding}
 use Rattle.integers.specs.RoundLaws.{round-one, round-neg, round-within}
+use Rattle.integers.specs.HalfLaws.{half-neg}
 use Rattle.measurement.specs.declared.Found.{Found}
 use Rattle.measurement.specs.declared.Found.the-variants.{At, Nothing}
-use Rattle.integers.specs.Fraction.{Frac, whole, nearest}
+use Rattle.integers.specs.Fraction.{Frac, whole, minus, nearest, halfway, rounded}
 use Rattle.measurement.specs.Sound.{Usable, OnLine, Linearizable}
 use Rattle.measurement.specs.Curve.{Point, pointAt, pointsFrom, highestOf, before, line, lineValue, rightOf, fourQuadrants, oneQuadrant, curve, rising}
 
@@ -32,17 +34,17 @@ usable zero a l = absurd (a refl)
 usable (suc m) a l = l
 
 -- what code divides: y (x₁ − x) + (v − x)(y₁ − y), by x₁ − x
-pub line-value : (x y x₁ y₁ v : ℤ) → x <ℤ x₁ → roundDiv (y *ℤ (x₁ -ℤ x) +ℤ (v -ℤ x) *ℤ (y₁ -ℤ y)) (x₁ -ℤ x) ≡ lineValue x y x₁ y₁ v
+pub line-value : (x y x₁ y₁ v : ℤ) → x <ℤ x₁ → rounding (y *ℤ (x₁ -ℤ x) +ℤ (v -ℤ x) *ℤ (y₁ -ℤ y)) (x₁ -ℤ x) ≡ lineValue x y x₁ y₁ v
 unfolding lineValue
 line-value x y x₁ y₁ v h = same (x₁ -ℤ x) (y₁ -ℤ y) (natAbs (x₁ -ℤ x) * 1) run
   where
     run : x₁ -ℤ x ≡ pos (natAbs (x₁ -ℤ x) * 1)
     run = ring (var x₁ ⊖ var x) (lit (natAbs (x₁ -ℤ x) * 1)) (omega (arith, lt-ex (var x) (var x₁) (h .lt), abs-ex (var x₁ ⊖ var x)))
 
-    same : (D E : ℤ) (k : ℕ) → D ≡ pos k → roundDiv (y *ℤ D +ℤ (v -ℤ x) *ℤ E) D ≡ roundDiv (y *ℤ pos k +ℤ (v -ℤ x *ℤ pos 1) *ℤ E) (pos k)
+    same : (D E : ℤ) (k : ℕ) → D ≡ pos k → rounding (y *ℤ D +ℤ (v -ℤ x) *ℤ E) D ≡ rounding (y *ℤ pos k +ℤ (v -ℤ x *ℤ pos 1) *ℤ E) (pos k)
     same D E k e =
-        ap (λ (z : ℤ). roundDiv (y *ℤ z +ℤ (v -ℤ x) *ℤ E) z) e
-        ∙ ap (λ (z : ℤ). roundDiv z (pos k)) (ring (var y ⊗ lit k ⊕ (var v ⊖ var x) ⊗ var E) (var y ⊗ lit k ⊕ (var v ⊖ var x ⊗ lit 1) ⊗ var E) (omega arith))
+        ap (λ (z : ℤ). rounding (y *ℤ z +ℤ (v -ℤ x) *ℤ E) z) e
+        ∙ ap (λ (z : ℤ). rounding z (pos k)) (ring (var y ⊗ lit k ⊕ (var v ⊖ var x) ⊗ var E) (var y ⊗ lit k ⊕ (var v ⊖ var x ⊗ lit 1) ⊗ var E) (omega arith))
 
 -- ---- what is found
 
@@ -193,9 +195,9 @@ module _ {ws : List ℤ} {n : ℕ} (u : Usable ws n) (v : ℤ) where
       ap₂ (λ (j k : ℕ). record { x = getD ws j (pos 0); y = getD ws k (pos 0) }) a b
 
   pub value-words : (i : ℕ) → highestOf ws n v ≡ At i → i + 1 < n →
-      nearest (fourQuadrants (pointsFrom ws 0 n) (whole v)) ≡ lineValue (getD ws (2 * i) (pos 0)) (getD ws (2 * i + 1) (pos 0)) (getD ws (2 * i + 2) (pos 0)) (getD ws (2 * i + 3) (pos 0)) v
+      rounded (fourQuadrants (pointsFrom ws 0 n) (whole v)) ≡ lineValue (getD ws (2 * i) (pos 0)) (getD ws (2 * i + 1) (pos 0)) (getD ws (2 * i + 2) (pos 0)) (getD ws (2 * i + 3) (pos 0)) v
   unfolding lineValue
-  value-words i e l = ap nearest (value-line i e l) ∙ ap (λ (p : Point). nearest (line (pointAt ws i) p (whole v))) (next i)
+  value-words i e l = ap rounded (value-line i e l) ∙ ap (λ (p : Point). rounded (line (pointAt ws i) p (whole v))) (next i)
 
   pub on-words : (i : ℕ) → highestOf ws n v ≡ At i → i + 1 < n → OnLine (getD ws (2 * i) (pos 0)) (getD ws (2 * i + 1) (pos 0)) (getD ws (2 * i + 2) (pos 0)) (getD ws (2 * i + 3) (pos 0)) v
   on-words i e l =
@@ -217,10 +219,11 @@ v-within {x} {y} {x₁} {y₁} {v} o =
     (omega (arith, ints, o .to, o .x₁-within .above, excl v, excl x₁))
     (omega (arith, ints, o .from, o .x-within .below, excl v, excl x))
 
-line-within : (x y x₁ y₁ v : ℤ) → OnLine x y x₁ y₁ v → Within 60000000000000000 (lineValue x y x₁ y₁ v)
+line-within : (x y x₁ y₁ v : ℤ) → OnLine x y x₁ y₁ v → Within 60000000000000000 (lineValue x y x₁ y₁ v .value)
+unfolding rounding
 line-within x y x₁ y₁ v o =
     let l : x <ℤ x₁ = omega (arith, ints, o .from, o .to) in
-    subst (Within 60000000000000000) (line-value x y x₁ y₁ v l)
+    subst (λ (r : Rounded). Within 60000000000000000 (r .value)) (line-value x y x₁ y₁ v l)
     (round-within (x₁ -ℤ x)
     (wider (add-within (mul-within (o .y-within) (sub-within (o .x₁-within) (o .x-within))) (mul-within (sub-within (v-within o) (o .x-within)) (sub-within (o .y₁-within) (o .y-within))))
     (lit≤ tt)))
@@ -229,6 +232,7 @@ whole-within : (z : ℤ) → Within Z z → Within 60000000000000000 (nearest (w
 whole-within z h = rw (round-one z) (wider h (lit≤ tt))
 
 pub four-within : {ws : List ℤ} {n : ℕ} → Usable ws n → (v : ℤ) → Within 60000000000000000 (nearest (fourQuadrants (pointsFrom ws 0 n) (whole v)))
+unfolding rounding
 four-within {ws} {n} u v = go (highestOf ws n v) refl
   where
     at : (i : ℕ) → highestOf ws n v ≡ At i → Dec (n ≤ i + 1) → Within 60000000000000000 (nearest (fourQuadrants (pointsFrom ws 0 n) (whole v)))
@@ -237,7 +241,7 @@ four-within {ws} {n} u v = go (highestOf ws n v) refl
         rw (value-last u v i e l) (whole-within (pointAt ws i .y) (u .within (2 * i + 1) (omega arith)))
     at i e (no y) =
         let l : i + 1 < n = omega (arith, y) in
-        rw (value-words u v i e l) (line-within _ _ _ _ v (on-words u v i e l))
+        subst (λ (r : Rounded). Within 60000000000000000 (r .value)) (sym (value-words u v i e l)) (line-within _ _ _ _ v (on-words u v i e l))
 
     go : (f : Found) → highestOf ws n v ≡ f → Within 60000000000000000 (nearest (fourQuadrants (pointsFrom ws 0 n) (whole v)))
     go (At i) e = at i e (decLe n (i + 1))
@@ -245,15 +249,27 @@ four-within {ws} {n} u v = go (highestOf ws n v) refl
 
 -- ---- one quadrant at a whole number
 
-pub one-negative : (ps : List Point) (v : ℤ) → ltZ v (pos 0) ≡ true → nearest (oneQuadrant ps (whole v)) ≡ pos 0 -ℤ nearest (fourQuadrants ps (whole (pos 0 -ℤ v)))
+-- minus a rounded value; its mark stays
+abbrev pub turned : Rounded → Rounded
+turned r = record { value = pos 0 -ℤ r .value; half = r .half }
+
+turned-is : (u : Frac) → rounded (minus u) ≡ turned (rounded u)
+unfolding rounding
+turned-is u =
+    rw (half-neg (u .num) (pos (u .den)), round-neg (u .num) (pos (u .den)))
+    (ap (λ (z : ℤ). turned-by z) (ring (neg (var (nearest u))) (lit 0 ⊖ var (nearest u)) (omega arith)))
+  where
+    turned-by : ℤ → Rounded
+    turned-by z = record { value = z; half = halfway u }
+
+pub one-negative : (ps : List Point) (v : ℤ) → ltZ v (pos 0) ≡ true → rounded (oneQuadrant ps (whole v)) ≡ turned (rounded (fourQuadrants ps (whole (pos 0 -ℤ v))))
 unfolding oneQuadrant
 one-negative ps (pos n) e = absurd (omega (arith, ints))
 one-negative ps (negsuc n) e =
-    round-neg (fourQuadrants ps (whole (pos (suc n))) .num) (pos (fourQuadrants ps (whole (pos (suc n))) .den))
-    ∙ ring (neg (var (nearest (fourQuadrants ps (whole (pos (suc n))))))) (lit 0 ⊖ var (nearest (fourQuadrants ps (whole (pos (suc n)))))) (omega arith)
-    ∙ ap (λ (z : ℤ). pos 0 -ℤ nearest (fourQuadrants ps (whole z))) (ring (lit (suc n)) (lit 0 ⊖ var (negsuc n)) (omega arith))
+    turned-is (fourQuadrants ps (whole (pos (suc n))))
+    ∙ ap (λ (z : ℤ). turned (rounded (fourQuadrants ps (whole z)))) (ring (lit (suc n)) (lit 0 ⊖ var (negsuc n)) (omega arith))
 
-pub one-positive : (ps : List Point) (v : ℤ) → ltZ v (pos 0) ≡ false → nearest (oneQuadrant ps (whole v)) ≡ nearest (fourQuadrants ps (whole v))
+pub one-positive : (ps : List Point) (v : ℤ) → ltZ v (pos 0) ≡ false → rounded (oneQuadrant ps (whole v)) ≡ rounded (fourQuadrants ps (whole v))
 unfolding oneQuadrant
 one-positive ps (pos n) e = refl
 one-positive ps (negsuc n) e = absurd (omega (arith, ints))

@@ -5,10 +5,11 @@ ghost use Prim.Native.Nat.{_+_, _*_, _^_, _≤_, _<_};
 ghost use lib.IntN.{pos};
 ghost use lib.ListN.{length};
 ghost use Rattle.integers.specs.Int.{Within};
-ghost use Rattle.integers.specs.Fraction.{whole, nearest};
-ghost use Rattle.measurement.specs.Curve.{pointAt, highestOf, lineValue, pointsFrom, fourQuadrants, oneQuadrant, linearizedOf};
-ghost use Rattle.measurement.specs.Measure.{errorNumber, measured, directedOf, distanceOf, scaledOf, judgedOf, measuredOf};
+ghost use Rattle.integers.specs.Fraction.{whole, rounded};
+ghost use Rattle.measurement.specs.Curve.{pointAt, highestOf, lineValue, pointsFrom, fourQuadrants, oneQuadrant, linearizedBy};
+ghost use Rattle.measurement.specs.Measure.{errorNumber, measured, directedOf, distanceOf, scaledBy, judgedOf, measurementOf};
 ghost use Rattle.measurement.specs.Sound.{OnLine, Usable, Linearizable, Sound};
+use integers::Rounded;
 
 // What is wrong with a reading.
 pub enum Error {
@@ -38,6 +39,15 @@ pub fn error_number(e: Error) -> u32
 pub struct Measured {
     pub result: i32,
     pub error: Error,
+}
+
+// A reading, and where a half decided on the way to it, whatever its error.
+pub struct Measurement {
+    pub measured: Measured,
+    // In scaling.
+    pub scaling: bool,
+    // In linearization.
+    pub linearization: bool,
 }
 
 // How a position becomes a result: the numbers as the table has them.
@@ -92,12 +102,16 @@ fn distance(p: u32, offset: i32, round_loop: u32) -> i64
 }
 
 // Step 3: the distance times factor by divider, rounded, plus the additive value.
-fn scaled(d: i64, factor: u32, divider: u32, additive: i32) -> i64
+fn scaled(d: i64, factor: u32, divider: u32, additive: i32) -> Rounded
     requires { ⌜ Within 4394967294 d × (factor ≤ 9999999) ⌝ }
-    ensures { λ r. ⌜ r ≡ scaledOf d factor divider additive ⌝ }
+    ensures { λ r. ⌜ r ≡ scaledBy d factor divider additive ⌝ }
 {
     let q = integers::round_div(d * factor as i64, divider as i64);
-    q + additive as i64
+    let value = q.value + additive as i64;
+    Rounded {
+        value,
+        half: q.half,
+    }
 }
 
 // What is measured under an error: the result is 0.
@@ -152,8 +166,18 @@ fn highest(points: &[i32], n: usize, v: i64) -> Found
     Found::Nothing
 }
 
+// A whole number, at which no half decides.
+fn whole(z: i64) -> Rounded
+    ensures { λ r. ⌜ r ≡ rounded (whole z) ⌝ }
+{
+    Rounded {
+        value: z,
+        half: false,
+    }
+}
+
 // The straight line from (x, y) to (x1, y1) at v: the whole fraction, rounded once.
-fn on_line(x: i32, y: i32, x1: i32, y1: i32, v: i64) -> i64
+fn on_line(x: i32, y: i32, x1: i32, y1: i32, v: i64) -> Rounded
     requires { ⌜ OnLine x y x1 y1 v ⌝ }
     ensures { λ r. ⌜ r ≡ lineValue x y x1 y1 v ⌝ }
 {
@@ -165,58 +189,68 @@ fn on_line(x: i32, y: i32, x1: i32, y1: i32, v: i64) -> i64
 }
 
 // From point i on, the highest with x at most v: the line to the next point, or its own y beyond the last.
-fn from_point(points: &[i32], n: usize, i: usize, v: i64) -> i64
+fn from_point(points: &[i32], n: usize, i: usize, v: i64) -> Rounded
     requires { ⌜ Usable (now points) n × (highestOf (now points) n v ≡ Found.At i) ⌝ }
-    ensures { λ r. ⌜ r ≡ nearest (fourQuadrants (pointsFrom (now (points .entry)) 0 n) (whole v)) ⌝ }
+    ensures { λ r. ⌜ r ≡ rounded (fourQuadrants (pointsFrom (now (points .entry)) 0 n) (whole v)) ⌝ }
 {
     let k = 2 * i;
     if i + 1 == n {
-        return points[k + 1] as i64;
+        return whole(points[k + 1] as i64);
     }
     on_line(points[k], points[k + 1], points[k + 2], points[k + 3], v)
 }
 
 // Four quadrants: the curve at v, rounded once; before the first point its y.
-fn four_quadrants(points: &[i32], n: usize, v: i64) -> i64
+fn four_quadrants(points: &[i32], n: usize, v: i64) -> Rounded
     requires { ⌜ Usable (now points) n ⌝ }
-    ensures { λ r. ⌜ r ≡ nearest (fourQuadrants (pointsFrom (now (points .entry)) 0 n) (whole v)) ⌝ }
+    ensures { λ r. ⌜ r ≡ rounded (fourQuadrants (pointsFrom (now (points .entry)) 0 n) (whole v)) ⌝ }
 {
     match highest(points, n, v) {
         Found::At(i) => from_point(points, n, i, v),
-        Found::Nothing => points[1] as i64,
+        Found::Nothing => whole(points[1] as i64),
     }
 }
 
-// One quadrant: a negative v gives minus the value for -v.
-fn one_quadrant(points: &[i32], n: usize, v: i64) -> i64
+// One quadrant: a negative v gives minus the value for -v, and its mark.
+fn one_quadrant(points: &[i32], n: usize, v: i64) -> Rounded
     requires { ⌜ Usable (now points) n × Within 50000000000000000 v ⌝ }
-    ensures { λ r. ⌜ r ≡ nearest (oneQuadrant (pointsFrom (now (points .entry)) 0 n) (whole v)) ⌝ }
+    ensures { λ r. ⌜ r ≡ rounded (oneQuadrant (pointsFrom (now (points .entry)) 0 n) (whole v)) ⌝ }
 {
     if v < 0 {
-        return 0 - four_quadrants(points, n, 0 - v);
+        let mirrored = four_quadrants(points, n, 0 - v);
+        let value = 0 - mirrored.value;
+        return Rounded {
+            value,
+            half: mirrored.half,
+        };
     }
     four_quadrants(points, n, v)
 }
 
 // Step 4: by the mode, 0 off, 1 one quadrant, 2 four.
-fn linearized(mode: u32, points: &[i32], n: usize, v: i64) -> i64
+fn linearized(mode: u32, points: &[i32], n: usize, v: i64) -> Rounded
     requires { ⌜ Linearizable mode (now points) n × Within 50000000000000000 v ⌝ }
-    ensures { λ r. ⌜ r ≡ linearizedOf mode (pointsFrom (now (points .entry)) 0 n) v ⌝ }
+    ensures { λ r. ⌜ r ≡ linearizedBy mode (pointsFrom (now (points .entry)) 0 n) v ⌝ }
 {
     match mode {
-        0 => v,
+        0 => whole(v),
         1 => one_quadrant(points, n, v),
         _ => four_quadrants(points, n, v),
     }
 }
 
-// Steps 2 to 5: the result and the error of a position after direction.
-pub fn measure(s: Scaling, points: &[i32], p: u32, reported: bool) -> Measured
+// Steps 2 to 5: the result and the error of a position after direction, and where a half decided.
+pub fn measure(s: Scaling, points: &[i32], p: u32, reported: bool) -> Measurement
     requires { ⌜ Sound s (now points) ⌝ }
-    ensures { λ r. ⌜ r ≡ measuredOf s (now (points .entry)) p reported ⌝ }
+    ensures { λ r. ⌜ r ≡ measurementOf s (now (points .entry)) p reported ⌝ }
 {
     let d = distance(p, s.offset, s.round_loop);
     let v = scaled(d, s.factor, s.divider, s.additive);
-    let w = linearized(s.linearization, points, s.used, v);
-    judged(reported, w)
+    let w = linearized(s.linearization, points, s.used, v.value);
+    let measured = judged(reported, w.value);
+    Measurement {
+        measured,
+        scaling: v.half,
+        linearization: w.half,
+    }
 }

@@ -1,5 +1,5 @@
 -- A step: an event and a state give the answer, with the new state in it; a refused event changes nothing.
--- Paper 01, "Events and inputs", "Switching" and "Where each check sits", event. Assumes nothing.
+-- Paper 01, "Events and inputs", "Switching" and "Where each check sits", event; paper 02, K7, the marks in the answer. Assumes nothing.
 use mathlib.Core.Bool.{Bool, cond}
 use mathlib.Core.List.{List}
 use Prim.Native.Nat.{ℕ}
@@ -7,12 +7,13 @@ use lib.Dec.{leb}
 use lib.IntN.{ℤ}
 use Rattle.state.specs.declared.Outcome.{Outcome}
 use Rattle.state.specs.declared.State.{State}
-use Rattle.state.specs.State.{stateOf, withLevels, withShown, withSwitches, receivedOf}
-use Rattle.inputs.specs.Levels.{commandsOf}
+use Rattle.state.specs.State.{stateOf, withLevels, withShown, withSwitches, halvesIn, receivedOf}
+use Rattle.inputs.specs.Levels.{commandsOf, marksOf}
 use Rattle.inputs.specs.Freeze.{frozen}
 use Rattle.events.specs.declared.Event.{Event}
 use Rattle.events.specs.declared.Event.the-variants.{Telegram, Levels, Tick}
-use Rattle.reading.specs.Reading.{acceptsOf}
+use Rattle.reading.specs.declared.Halves.{Halves}
+use Rattle.reading.specs.Reading.{acceptsOf, noHalves}
 use Rattle.settings.specs.Settings.{preselectionsOf}
 use Rattle.switching.specs.declared.Switch.{Switch}
 use Rattle.switching.specs.Outputs.{outputsOf}
@@ -25,9 +26,9 @@ use Rattle.panel.specs.declared.Answer.{Answer}
 abbrev pub outputsIn : List ℤ → List Switch → List Bool
 outputsIn t ss = outputsOf (preselectionsOf t) ss
 
--- "carries the new state, the result, the shown value, error, output levels, drive and a note"
-unfoldable pub answerOf : State → ℕ → Answer
-answerOf s note =
+-- "carries the new state, the result, the shown value, error, output levels, drive and a note"; K7, "the event's answer gives the three marks"
+unfoldable pub answerOf : State → ℕ → Halves → Answer
+answerOf s note halves =
     record {
       state = s;
       result = s .live .reading .result;
@@ -36,11 +37,12 @@ answerOf s note =
       outputs = outputsIn (s .table) (s .live .switches);
       drive = s .live .reading .drive;
       note = note;
+      halves = halves;
     }
 
 -- the answer that a table and the outcome beside it give
 abbrev pub answerBy : List ℤ → Outcome → Answer
-answerBy t o = answerOf (stateOf t (o .live)) (o .note)
+answerBy t o = answerOf (stateOf t (o .live)) (o .note) (o .halves)
 
 -- ---- after the commands
 
@@ -63,17 +65,19 @@ settledOf s = displayedOf (switchedOf s)
 
 -- ---- the three events
 
+-- K7, "All three are no .. on a refused event .. and on any event but a telegram or a reset carried out"
+
 -- 11: a telegram bit above N is set
 unfoldable pub onTelegram : State → ℕ → Answer
-onTelegram s w = cond (acceptsOf (s .table) w) (answerOf (settledOf (receivedOf s w)) 0) (answerOf s 11)
+onTelegram s w = cond (acceptsOf (s .table) w) (answerOf (settledOf (receivedOf s w)) 0 (halvesIn (receivedOf s w))) (answerOf s 11 noHalves)
 
 -- 10: levels above 7
 unfoldable pub onLevels : State → ℕ → Answer
-onLevels s l = cond (leb l 7) (answerOf (settledOf (withLevels (commandsOf s l .state) l)) (commandsOf s l .note)) (answerOf s 10)
+onLevels s l = cond (leb l 7) (answerOf (settledOf (withLevels (commandsOf s l .state) l)) (commandsOf s l .note) (marksOf s l)) (answerOf s 10 noHalves)
 
 -- Switching, "ticks use it up": pulses, and through them signals and outputs
 unfoldable pub onTick : State → ℕ → Answer
-onTick s ms = answerOf (withSwitches s (allTicked ms (s .live .switches))) 0
+onTick s ms = answerOf (withSwitches s (allTicked ms (s .live .switches))) 0 noHalves
 
 unfoldable pub stepOf : State → Event → Answer
 stepOf s (Telegram w) = onTelegram s w

@@ -9,4 +9,5 @@ use Rattle.panel.specs.Step.{answerOf, settledOf}
 
 -- the answer that an event comes to, from what it does before switching and display
 abbrev pub answerAfter : List ℤ → Begun → Answer
-answerAfter t b = cond (b .settles) (answerOf (settledOf (stateOf t (b .live))) (b .note)) (answerOf (stateOf t (b .live)) (b .note))
+answerAfter t b =
+    cond (b .settles) (answerOf (settledOf (stateOf t (b .live))) (b .note) (b .halves)) (answerOf (stateOf t (b .live)) (b .note) (b .halves))

@@ -4,6 +4,7 @@
 use analog::Drive;
 use events::Event;
 use measurement::Error;
+use reading::Halves;
 use ssi::Built;
 use ssi::Diagnosis;
 use state::Live;
@@ -15,6 +16,7 @@ ghost use mathlib.Core.Bool.{false};
 ghost use Rattle.state.specs.State.{stateOf, setSwitches};
 ghost use Rattle.state.specs.Valid.{Good};
 ghost use Rattle.parameters.specs.Valid.{Valid};
+ghost use Rattle.reading.specs.Reading.{noHalves};
 ghost use Rattle.switching.specs.Switching.{allTicked};
 ghost use Rattle.panel.specs.Load.{loadedOf};
 ghost use Rattle.panel.specs.Step.{answerOf, answerBy, outputsIn, switchesAfter, shownAfter, settledOf, onTelegram, onLevels, stepOf};
@@ -35,6 +37,8 @@ pub struct Answer {
     pub drive: Drive,
     // The refusal of the event or of its lowest refused input, 0 for none.
     pub note: u8,
+    // Where a half decided in the result that the event worked out; none where it worked out none.
+    pub halves: Halves,
 }
 
 // The levels of the outputs that a table and its switches give.
@@ -44,9 +48,9 @@ pub fn outputs(t: &[i32; 104], switches: [Switch; 4]) -> [bool; 4]
     switching::output::outputs(settings::preselections(t), switches)
 }
 
-// The answer that a state gives, with a note.
-pub fn answered(s: State, note: u8) -> Answer
-    ensures { λ r. ⌜ r ≡ answerOf s note ⌝ }
+// The answer that a state gives, with a note and marks.
+pub fn answered(s: State, note: u8, halves: Halves) -> Answer
+    ensures { λ r. ⌜ r ≡ answerOf s note halves ⌝ }
 {
     let l = s.live;
     let switches = l.switches;
@@ -62,6 +66,7 @@ pub fn answered(s: State, note: u8) -> Answer
         outputs: levels,
         drive: drive,
         note: note,
+        halves: halves,
     }
 }
 
@@ -89,8 +94,22 @@ fn shown_after(t: &[i32; 104], levels: u8, shown: i32, result: i32) -> i32
 struct Begun {
     live: Live,
     note: u8,
+    halves: Halves,
     // Whether switching and display follow: not after a refusal or a tick.
     settles: bool,
+}
+
+// A refused event: nothing changes.
+fn refused(l: Live, note: u8) -> Begun
+    ensures { λ r. ⌜ r ≡ record { live = l; note = note; halves = noHalves; settles = false } ⌝ }
+{
+    let halves = reading::no_halves();
+    Begun {
+        live: l,
+        note,
+        halves,
+        settles: false,
+    }
 }
 
 // A telegram: refused with 11, or read.
@@ -99,16 +118,15 @@ fn on_telegram(t: &[i32; 104], l: Live, telegram: u32) -> Begun
     ensures { λ r. ⌜ answerAfter (now (t .entry)) r ≡ onTelegram (stateOf (now (t .entry)) l) telegram ⌝ }
 {
     if !reading::accepts(t, telegram) {
-        return Begun {
-            live: l,
-            note: 11,
-            settles: false,
-        };
+        return refused(l, 11);
     }
     let next = state::received(t, l, telegram);
+    let live = next.live;
+    let halves = next.halves;
     Begun {
-        live: next,
+        live,
         note: 0,
+        halves,
         settles: true,
     }
 }
@@ -119,32 +137,32 @@ fn on_levels(t: &mut [i32; 104], l: Live, levels: u8) -> Begun
     ensures { λ r. ⌜ answerAfter (now (t .exit)) r ≡ onLevels (stateOf (now (t .entry)) l) levels ⌝ }
 {
     if 7 < levels {
-        return Begun {
-            live: l,
-            note: 10,
-            settles: false,
-        };
+        return refused(l, 10);
     }
     let x = inputs::act(t, l, levels);
     let n = x.live;
     let next = state::with_levels(n, levels);
+    let halves = x.halves;
     Begun {
         live: next,
         note: x.note,
+        halves,
         settles: true,
     }
 }
 
 // A tick: pulses are used up.
 fn on_tick(l: Live, ms: u16) -> Begun
-    ensures { λ r. ⌜ r ≡ record { live = setSwitches l (allTicked ms (l .switches)); note = 0; settles = false } ⌝ }
+    ensures { λ r. ⌜ r ≡ record { live = setSwitches l (allTicked ms (l .switches)); note = 0; halves = noHalves; settles = false } ⌝ }
 {
     let switches = l.switches;
     let next = state::with_switches(l, switching::tick_all(ms, switches));
     let settles = false;
+    let halves = reading::no_halves();
     Begun {
         live: next,
         note: 0,
+        halves,
         settles,
     }
 }
@@ -180,16 +198,19 @@ pub fn advance(t: &mut [i32; 104], l: Live, e: Event) -> Outcome
 {
     let b = begin(t, l, e);
     let live = b.live;
+    let halves = b.halves;
     if b.settles {
         let last = settle(t, live);
         return Outcome {
             live: last,
             note: b.note,
+            halves,
         };
     }
     Outcome {
         live: live,
         note: b.note,
+        halves,
     }
 }
 
@@ -203,7 +224,8 @@ pub fn step(s: State, e: Event) -> Answer
     let l = s.live;
     let x = advance(&mut table, l, e);
     let live = x.live;
-    answered(State { table, live }, x.note)
+    let halves = x.halves;
+    answered(State { table, live }, x.note, halves)
 }
 
 // What loading a table answers.

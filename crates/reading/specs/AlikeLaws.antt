@@ -12,7 +12,7 @@ use Rattle.parameters.specs.Alike.{Alike, misses, MissesFrom}
 use Rattle.settings.specs.AlikeLaws.{layout-alike, direction-alike, mode-alike, used-alike, scaling-alike, points-alike, span-alike}
 use Rattle.settings.specs.Settings.{scalingOf}
 use Rattle.reading.specs.declared.Basis.{Basis}
-use Rattle.reading.specs.Reading.{acceptsOf, directedAt, basisOf, measuredAt, readingOf, curveFrom, slopeAt}
+use Rattle.reading.specs.Reading.{acceptsOf, directedAt, basisOf, measuredAt, measurementAt, readingOf, halvesOf, curveFrom, slopeAt}
 
 module _ {touched : ℕ → Bool} {s t : List ℤ} (a : Alike touched s t) (layout : misses touched layoutSlots ≡ true) where
   pub accepts-alike : (w : ℕ) → acceptsOf s w ≡ acceptsOf t w
@@ -42,3 +42,8 @@ module _ {touched : ℕ → Bool} {s t : List ℤ} (a : Alike touched s t) (scal
     pub reading-alike : misses touched spanSlots ≡ true → (b : Basis) → readingOf s b ≡ readingOf t b
     unfolding readingOf measuredAt
     reading-alike span b = rw (scaling-alike a scaling same, points-alike a long points, span-alike a span)
+
+    -- and the same marks
+    pub halves-alike : misses touched spanSlots ≡ true → (b : Basis) → halvesOf s b ≡ halvesOf t b
+    unfolding halvesOf measurementAt measuredAt
+    halves-alike span b = rw (scaling-alike a scaling same, points-alike a long points, span-alike a span)

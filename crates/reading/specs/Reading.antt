@@ -1,25 +1,29 @@
 -- One reading under a table: a telegram gives the position after direction and whether its error bit reports; these become a result or an error, and the result drives
 -- the analog line.
--- Paper 01, "From telegram to result" and "Analog value", held together. Assumes nothing.
-use mathlib.Core.Bool.{Bool, cond}
+-- Paper 01, "From telegram to result" and "Analog value", held together; paper 02, K7, the marks beside a reading. Assumes nothing.
+use mathlib.Core.Bool.{Bool, false, cond}
 use mathlib.Core.List.{List}
 use Prim.Native.Nat.{ℕ}
 use lib.Dec.{eqb}
 use lib.IntN.{ℤ}
 use Rattle.analog.specs.declared.Drive.{Drive}
 use Rattle.analog.specs.declared.Drive.the-variants.{Off}
-use Rattle.analog.specs.AnalogCode.{codeOf}
+use Rattle.analog.specs.declared.Coded.{Coded}
+use Rattle.analog.specs.AnalogCode.{codeOf, codedOf}
 use Rattle.analog.specs.Drives.{driveOf}
 use Rattle.integers.specs.Fraction.{Frac, Ratio}
 use Rattle.measurement.specs.declared.Measured.{Measured}
+use Rattle.measurement.specs.declared.Measurement.{Measurement}
 use Rattle.measurement.specs.Curve.{steepest}
-use Rattle.measurement.specs.Measure.{errorNumber, directedOf, measuredOf, usedPoints, exactCurve}
+use Rattle.measurement.specs.Measure.{errorNumber, directedOf, measuredOf, measurementOf, usedPoints, exactCurve}
 use Rattle.parameters.specs.Slots.{direction, linearization}
 use Rattle.settings.specs.declared.Span.{Span}
 use Rattle.settings.specs.Settings.{layoutOf, scalingOf, pointsOf, spanOf}
 use Rattle.ssi.specs.Telegram.{accepted, errorReported, positionOf, widthOf}
 use Rattle.reading.specs.declared.Basis.{Basis}
 use Rattle.reading.specs.declared.Reading.{Reading}
+use Rattle.reading.specs.declared.Halves.{Halves}
+use Rattle.reading.specs.declared.Marked.{Marked}
 
 -- Where each check sits, 11: accepted unless a bit above N is set
 unfoldable pub acceptsOf : List ℤ → ℕ → Bool
@@ -37,9 +41,16 @@ basisOf t w = record { directed = directedAt t w; reported = errorReported (layo
 unfoldable pub measuredAt : List ℤ → Basis → Measured
 measuredAt t b = measuredOf (scalingOf t) (pointsOf t) (b .directed) (b .reported)
 
--- the code of the result in the format and between the ends of a span
+-- the same with the marks of scaling and linearization
+unfoldable pub measurementAt : List ℤ → Basis → Measurement
+measurementAt t b = measurementOf (scalingOf t) (pointsOf t) (b .directed) (b .reported)
+
+-- the code of the result in the format and between the ends of a span, and the same with its mark
 unfoldable pub codeAt : Span → Measured → ℤ
 codeAt a m = codeOf (a .format) (a .start) (a .end) (m .result)
+
+unfoldable pub codedAt : Span → Measured → Coded
+codedAt a m = codedOf (a .format) (a .start) (a .end) (m .result)
 
 -- step 5, "under an error the analog drive is off"; else the drive of the code
 unfoldable pub driveAt : Span → Measured → Drive
@@ -53,6 +64,27 @@ readingOf t b =
       code = codeAt (spanOf t) (measuredAt t b);
       drive = driveAt (spanOf t) (measuredAt t b);
     }
+
+-- ---- K7, where a half decided
+
+abbrev pub halves : Bool → Bool → Bool → Halves
+halves scaling linearization analog = record { scaling = scaling; linearization = linearization; analog = analog }
+
+abbrev pub noHalves : Halves
+noHalves = halves false false false
+
+-- "Scaling, linearization and analog value each pass on their own"; "All three are no under an error"
+unfoldable pub marksOf : Measurement → Bool → Halves
+marksOf x analog = cond (eqb (errorNumber (x .measured .error)) 0) (halves (x .scaling) (x .linearization) analog) noHalves
+
+unfoldable pub halvesOf : List ℤ → Basis → Halves
+halvesOf t b = marksOf (measurementAt t b) (codedAt (spanOf t) (measuredAt t b) .half)
+
+-- a reading with its marks
+unfoldable pub markedOf : List ℤ → Basis → Marked
+markedOf t b = record { reading = readingOf t b; halves = halvesOf t b }
+
+-- ---- the curve
 
 -- L(E) of a position after direction, and of a telegram; and S
 unfoldable pub curveFrom : List ℤ → ℕ → Frac

@@ -1,12 +1,14 @@
-// One reading: a telegram gives what a result starts from, and that gives the result, the error, the analog code and the drive.
+// One reading: a telegram gives what a result starts from, and that gives the result, the error, the analog code, the drive, and where a half decided.
 // Uses `settings` for the table, and `ssi`, `measurement` and `analog`, which it hands the settings to.
 ghost use mathlib.Core.Path.{_≡_};
 ghost use Rattle.parameters.specs.Valid.{Valid};
 ghost use Rattle.settings.specs.Settings.{layoutOf};
-ghost use Rattle.reading.specs.Reading.{acceptsOf, directedAt, basisOf, measuredAt, codeAt, driveAt, readingOf};
+ghost use Rattle.reading.specs.Reading.{acceptsOf, directedAt, basisOf, measurementAt, codeAt, codedAt, driveAt, noHalves, marksOf, markedOf};
+use analog::Coded;
 use analog::Drive;
 use measurement::Error;
 use measurement::Measured;
+use measurement::Measurement;
 use settings::Span;
 use ssi::Layout;
 
@@ -27,6 +29,31 @@ pub struct Reading {
     pub code: i32,
     // The drive of the code, off under an error.
     pub drive: Drive,
+}
+
+// Where a half decided.
+pub struct Halves {
+    pub scaling: bool,
+    pub linearization: bool,
+    // Of the code before it is held to its ends.
+    pub analog: bool,
+}
+
+// A reading with its marks.
+pub struct Marked {
+    pub reading: Reading,
+    pub halves: Halves,
+}
+
+// No half decided.
+pub fn no_halves() -> Halves
+    ensures { λ r. ⌜ r ≡ noHalves ⌝ }
+{
+    Halves {
+        scaling: false,
+        linearization: false,
+        analog: false,
+    }
 }
 
 // Whether a telegram has no bit set above bit N.
@@ -58,10 +85,10 @@ pub fn basis_of(t: &[i32; 104], telegram: u32) -> Basis
     }
 }
 
-// The result and the error.
-fn measured(t: &[i32; 104], b: Basis) -> Measured
+// The result and the error, with the marks of scaling and linearization.
+fn measured(t: &[i32; 104], b: Basis) -> Measurement
     requires { ⌜ Valid (now t) ⌝ }
-    ensures { λ r. ⌜ r ≡ measuredAt (now (t .entry)) b ⌝ }
+    ensures { λ r. ⌜ r ≡ measurementAt (now (t .entry)) b ⌝ }
 {
     measurement::measure(
         settings::scaling(t),
@@ -71,9 +98,9 @@ fn measured(t: &[i32; 104], b: Basis) -> Measured
     )
 }
 
-// The analog code of a measured result.
-fn code_of(a: Span, m: Measured) -> i32
-    ensures { λ r. ⌜ r ≡ codeAt a m ⌝ }
+// The analog code of a measured result, with its mark.
+fn code_of(a: Span, m: Measured) -> Coded
+    ensures { λ r. ⌜ r ≡ codedAt a m ⌝ }
 {
     analog::code(a.format, a.start, a.end, m.result)
 }
@@ -90,20 +117,39 @@ fn driven(a: Span, m: Measured, code: i32) -> Drive
     Drive::Off
 }
 
-// Result, error, code and drive of what a result starts from.
-pub fn read(t: &[i32; 104], b: Basis) -> Reading
-    requires { ⌜ Valid (now t) ⌝ }
-    ensures { λ r. ⌜ r ≡ readingOf (now (t .entry)) b ⌝ }
+// The marks of a reading, with that of its code: none under an error.
+fn marks(x: Measurement, analog: bool) -> Halves
+    ensures { λ r. ⌜ r ≡ marksOf x analog ⌝ }
 {
-    let m = measured(t, b);
-    let a = settings::analog_span(t);
-    let code = code_of(a, m);
-    let drive = driven(a, m, code);
+    let m = x.measured;
     let error = m.error;
-    Reading {
-        result: m.result,
-        error: error,
-        code: code,
-        drive: drive,
+    if measurement::error_number(error) == 0 {
+        return Halves {
+            scaling: x.scaling,
+            linearization: x.linearization,
+            analog,
+        };
     }
+    no_halves()
+}
+
+// Result, error, code and drive of what a result starts from, and where a half decided.
+pub fn read(t: &[i32; 104], b: Basis) -> Marked
+    requires { ⌜ Valid (now t) ⌝ }
+    ensures { λ r. ⌜ r ≡ markedOf (now (t .entry)) b ⌝ }
+{
+    let x = measured(t, b);
+    let m = x.measured;
+    let a = settings::analog_span(t);
+    let c = code_of(a, m);
+    let drive = driven(a, m, c.code);
+    let halves = marks(x, c.half);
+    let error = m.error;
+    let reading = Reading {
+        result: m.result,
+        error,
+        code: c.code,
+        drive,
+    };
+    Marked { reading, halves }
 }

@@ -18,7 +18,7 @@ use Rattle.parameters.specs.ValidLaws.{loads}
 use Rattle.reading.specs.declared.Basis.{Basis}
 use Rattle.reading.specs.declared.Reading.{Reading}
 use Rattle.reading.specs.AlikeLaws.{directed-alike, slope-alike, curve-alike}
-use Rattle.reading.specs.Reading.{directedAt, basisOf, readingOf, curveFrom, curveAt, slopeAt}
+use Rattle.reading.specs.Reading.{directedAt, basisOf, readingOf, noHalves, curveFrom, curveAt, slopeAt}
 use Rattle.reading.specs.ReadingLaws as reading
 use Rattle.settings.specs.Settings.{isTeach, preselectionOf, preselectionsOf, inputAt}
 use Rattle.settings.specs.SettingsLaws.{preselection-at}
@@ -33,7 +33,7 @@ use Rattle.state.specs.declared.State.{State}
 use Rattle.panel.specs.Step.{answerOf}
 use Rattle.state.specs.Valid.{Good}
 use Rattle.panel.specs.ValidLaws.{good-step}
-use Rattle.runs.specs.Run.{runOf, lastAnswer, traceOf, stored}
+use Rattle.runs.specs.Run.{runOf, unasked, lastAnswer, traceOf, stored}
 use Rattle.runs.specs.Book.{Book, bookOf}
 use Rattle.runs.specs.Demand3.{exactAt, Demanded}
 use Rattle.runs.specs.RunLaws.{answer-own, last-state, last-own, own-result, own-error}
@@ -93,8 +93,8 @@ module _ {t : List ℤ} (v : Valid t) where
   accurately : (es : List Event) → T (bookOf t es .seen) → lastAnswer t es .error ≡ Error.None → Accurate (lastAnswer t es .result) (exactAt t (bookOf t es)) (slopeAt t)
   unfolding answerOf
   accurately es =
-      let o = last-own (answerOf (freshOf t) 0) es (answer-own (freshOf t) 0) in
-      rw (own-result o, own-error o, last-state (answerOf (freshOf t) 0) es)
+      let o = last-own (unasked (freshOf t)) es (answer-own (freshOf t) 0 noHalves) in
+      rw (own-result o, own-error o, last-state (unasked (freshOf t)) es)
       (accurate-in (good-run (good-fresh v) es) (kept-run (kept-fresh t) es) (book-run (good-fresh v) (kept-fresh t) (book-fresh t) es))
 
 -- with linearization off S is 0

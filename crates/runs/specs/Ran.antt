@@ -9,10 +9,9 @@ use lib.IntN.{ℤ}
 use Rattle.events.specs.declared.Event.{Event}
 use Rattle.panel.specs.declared.Answer.{Answer}
 use Rattle.panel.specs.Load.{loadedOf}
-use Rattle.panel.specs.Step.{answerOf}
 use Rattle.parameters.specs.Load.{loadRefusal}
 use Rattle.runs.specs.declared.Ran.{Ran}
-use Rattle.runs.specs.Run.{lastAnswer}
+use Rattle.runs.specs.Run.{unasked, lastAnswer}
 use Rattle.runs.specs.Demand3.{Demand3}
 
 abbrev pub ran : ℕ → ℕ → Answer → Ran
@@ -21,7 +20,7 @@ ran n slot a = record { refusal = n; slot = slot; answer = a }
 -- a refused table answers its number and slot, with the defaults' fresh state as filler
 unfoldable pub ranOf : List ℤ → List Event → Ran
 ranOf t es =
-    cond (eqb (loadRefusal t) 0) (ran 0 0 (lastAnswer t es)) (ran (loadedOf t .refusal) (loadedOf t .slot) (answerOf (loadedOf t .state) 0))
+    cond (eqb (loadRefusal t) 0) (ran 0 0 (lastAnswer t es)) (ran (loadedOf t .refusal) (loadedOf t .slot) (unasked (loadedOf t .state)))
 
 -- of a table that loads, the answer is the one last given in the run, and demand 3 holds of the list
 pub record Promised (t : List ℤ) (es : List Event) (r : Ran) : Type 0 where

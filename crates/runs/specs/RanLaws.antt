@@ -8,20 +8,19 @@ use Rattle.events.specs.declared.Event.{Event}
 use Rattle.panel.specs.declared.Answer.{Answer}
 use Rattle.state.specs.declared.State.{State}
 use Rattle.panel.specs.Load.{loadedOf}
-use Rattle.panel.specs.Step.{answerOf}
 use Rattle.parameters.specs.Load.{loadRefusal}
 use Rattle.parameters.specs.LoadLaws.{answer-number, answer-table}
 use Rattle.runs.specs.declared.Ran.{Ran}
 use Rattle.runs.specs.Demand3Laws.{demand3}
 use Rattle.runs.specs.Ran.{ran, ranOf, Promised}
-use Rattle.runs.specs.Run.{answersOf, lastOf, lastAnswer}
+use Rattle.runs.specs.Run.{unasked, answersOf, lastOf, lastAnswer}
 
 -- load's number is the table's
 number-is : (t : List ℤ) → loadedOf t .refusal ≡ loadRefusal t
 unfolding loadedOf
 number-is t = answer-number t
 
-pub refused-run : (t : List ℤ) (es : List Event) → (loadedOf t .refusal ≡ 0 → ⊥) → ran (loadedOf t .refusal) (loadedOf t .slot) (answerOf (loadedOf t .state) 0) ≡ ranOf t es
+pub refused-run : (t : List ℤ) (es : List Event) → (loadedOf t .refusal ≡ 0 → ⊥) → ran (loadedOf t .refusal) (loadedOf t .slot) (unasked (loadedOf t .state)) ≡ ranOf t es
 unfolding ranOf
 refused-run t es n = rw (ne-eqb (loadRefusal t) 0 (λ z. n (number-is t ∙ z)))
 
@@ -30,9 +29,9 @@ refused-promise t es r n = record { last = λ z. absurd (n (number-is t ∙ z));
 
 -- the run of a loaded table starts from its fresh state
 from-load : (s : State) → List Event → Answer
-from-load s es = lastOf (answerOf s 0) (answersOf s es)
+from-load s es = lastOf (unasked s) (answersOf s es)
 
-pub loaded-last : (t : List ℤ) (es : List Event) → loadedOf t .refusal ≡ 0 → lastOf (answerOf (loadedOf t .state) 0) (answersOf (loadedOf t .state) es) ≡ lastAnswer t es
+pub loaded-last : (t : List ℤ) (es : List Event) → loadedOf t .refusal ≡ 0 → lastOf (unasked (loadedOf t .state)) (answersOf (loadedOf t .state) es) ≡ lastAnswer t es
 unfolding loadedOf from-load
 loaded-last t es z = ap (λ (u : List ℤ). from-load (freshOf u) es) (answer-table t (sym (number-is t) ∙ z))
 

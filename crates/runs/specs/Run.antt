@@ -13,6 +13,7 @@ use Rattle.state.specs.State.{freshOf}
 use Rattle.events.specs.declared.Event.{Event}
 use Rattle.events.specs.declared.Event.the-variants.{Telegram, Levels, Tick}
 use Rattle.measurement.specs.Measure.{errorNumber}
+use Rattle.reading.specs.Reading.{noHalves}
 use Rattle.switching.specs.Switching.{switchAt}
 use Rattle.switching.specs.Travel.{Seen}
 use Rattle.panel.specs.declared.Answer.{Answer}
@@ -28,13 +29,17 @@ unfoldable pub answersOf : State → List Event → List Answer
 answersOf s [] = []
 answersOf s (e ∷ es) = stepOf s e ∷ answersOf (stepOf s e .state) es
 
+-- before the first event: what a state answers, without note or marks
+abbrev pub unasked : State → Answer
+unasked s = answerOf s 0 noHalves
+
 -- the answer last given; before the first event, what the fresh state answers
 unfoldable pub lastOf : Answer → List Answer → Answer
 lastOf a [] = a
 lastOf a (b ∷ bs) = lastOf b bs
 
 abbrev pub lastAnswer : List ℤ → List Event → Answer
-lastAnswer t es = lastOf (answerOf (freshOf t) 0) (answersOf (freshOf t) es)
+lastAnswer t es = lastOf (unasked (freshOf t)) (answersOf (freshOf t) es)
 
 -- "travel .. the result answered .. and 0 under an error", and condition k + 1, after each event
 abbrev pub tracked : Answer → ℤ

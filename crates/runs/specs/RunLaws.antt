@@ -9,6 +9,7 @@ use lib.Seq.{drop-cons}
 use Rattle.events.specs.declared.Event.{Event}
 use Rattle.events.specs.declared.Event.the-variants.{Telegram, Levels, Tick}
 use Rattle.integers.specs.ChoiceLaws.{by-test}
+use Rattle.reading.specs.declared.Halves.{Halves}
 use Rattle.reading.specs.Reading.{acceptsOf}
 use Rattle.panel.specs.declared.Answer.{Answer}
 use Rattle.state.specs.declared.State.{State}
@@ -36,20 +37,20 @@ module _ (s : State) (es : List Event) (i : ℕ) where
 
 -- ---- the answers
 
--- result, shown, error, outputs and drive are those of the state that the answer carries
+-- result, shown, error, outputs and drive are those of the state that the answer carries; note and marks are its own
 abbrev pub Own : Answer → Type 0
-Own a = a ≡ answerOf (a .state) (a .note)
+Own a = a ≡ answerOf (a .state) (a .note) (a .halves)
 
-pub answer-own : (s : State) (note : ℕ) → Own (answerOf s note)
+pub answer-own : (s : State) (note : ℕ) (halves : Halves) → Own (answerOf s note halves)
 unfolding answerOf
-answer-own s note = refl
+answer-own s note halves = refl
 
 -- refused or not
 pub step-own : (s : State) (e : Event) → Own (stepOf s e)
 unfolding stepOf onTelegram onLevels onTick
-step-own s (Telegram w) = by-test (acceptsOf (s .table) w) _ _ Own (λ _. answer-own _ _) (λ _. answer-own _ _)
-step-own s (Levels l) = by-test (leb l 7) _ _ Own (λ _. answer-own _ _) (λ _. answer-own _ _)
-step-own s (Tick ms) = answer-own _ _
+step-own s (Telegram w) = by-test (acceptsOf (s .table) w) _ _ Own (λ _. answer-own _ _ _) (λ _. answer-own _ _ _)
+step-own s (Levels l) = by-test (leb l 7) _ _ Own (λ _. answer-own _ _ _) (λ _. answer-own _ _ _)
+step-own s (Tick ms) = answer-own _ _ _
 
 pub last-state : (a : Answer) (es : List Event) → lastOf a (answersOf (a .state) es) .state ≡ runOf (a .state) es
 unfolding lastOf answersOf runOf

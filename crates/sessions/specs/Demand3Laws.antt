@@ -14,7 +14,7 @@ use Rattle.registers.specs.Serve.{servedOf}
 use Rattle.registers.specs.ServeLaws.{still, afresh}
 use Rattle.registers.specs.StartLaws.{starts}
 use Rattle.runs.specs.Demand3Laws.{demand3}
-use Rattle.runs.specs.Run.{runOf, lastAnswer}
+use Rattle.runs.specs.Run.{runOf, unasked, lastAnswer}
 use Rattle.runs.specs.RunLaws.{last-state}
 use Rattle.sessions.specs.Session.{Entry, event, frame, Run, begun, entered, sessionOf, continued, runIn}
 use Rattle.sessions.specs.Demand3.{lastRun, SessionDemand, Started, Demanded}
@@ -28,7 +28,7 @@ run-on s (d ∷ es) e = run-on (stepOf s d .state) es e
 -- the state in which a run ends is the one that its last answer carries
 last-run : (r : Run) → runOf (freshOf (r .table)) (r .events) ≡ lastAnswer (r .table) (r .events) .state
 unfolding answerOf
-last-run r = sym (last-state (answerOf (freshOf (r .table)) 0) (r .events))
+last-run r = sym (last-state (unasked (freshOf (r .table))) (r .events))
 
 -- the panel is the one after the run, whose table loads
 record Follows (s : State) (r : Run) : Type 0 where

@@ -372,6 +372,10 @@ fn plain(s: Sheet, line: &[u8], out: &mut [u8]) -> Said
             sheet: s,
             end: wrong(out),
         },
+        Command::Halves => Said {
+            sheet: s,
+            end: wrong(out),
+        },
         Command::Frame => Said {
             sheet: s,
             end: wrong(out),

@@ -8,7 +8,8 @@ use Rattle.analog.specs.declared.Drive.the-variants.{Off}
 use Rattle.measurement.specs.declared.Error.the-variants as Error
 use Rattle.reading.specs.declared.Basis.{Basis}
 use Rattle.reading.specs.declared.Reading.{Reading}
-use Rattle.reading.specs.Reading.{basisOf, readingOf}
+use Rattle.reading.specs.declared.Halves.{Halves}
+use Rattle.reading.specs.Reading.{basisOf, readingOf, halvesOf}
 use Rattle.switching.specs.declared.Switch.{Switch}
 use Rattle.switching.specs.Switching.{freshSwitch}
 use Rattle.state.specs.declared.Extremes.{Extremes}
@@ -91,6 +92,10 @@ errorOf s = errorIn (s .live .reading)
 -- the reading of what the state keeps, under the table in force
 abbrev pub readAgain : State → Reading
 readAgain s = readingOf (s .table) (s .live .basis)
+
+-- K7: the marks of that reading
+abbrev pub halvesIn : State → Halves
+halvesIn s = halvesOf (s .table) (s .live .basis)
 
 unfoldable pub rereadOf : State → State
 rereadOf s = withReading s (readAgain s) (widenedOf (s .live .extremes) (readAgain s))

@@ -1,6 +1,6 @@
 //! Analog value: code and drive. Paper: "Analog value".
 
-use crate::fraction::Fraction;
+use crate::fraction::{Fraction, Rounded};
 use crate::table::{AnalogFormat, Table};
 
 /// The drive of the analog output.
@@ -11,8 +11,8 @@ pub enum Drive {
     Milliamps(f32),
 }
 
-/// The code of an error-free result.
-pub fn code(table: &Table, result: i64) -> i32 {
+/// The code of an error-free result. K7: its mark speaks of the fraction before the code is held.
+pub fn code(table: &Table, result: i64) -> Rounded {
     let part = Fraction::new(
         (result - table.analog_start).into(),
         (table.analog_end - table.analog_start).into(),
@@ -21,7 +21,8 @@ pub fn code(table: &Table, result: i64) -> i32 {
         AnalogFormat::Volts => (-32_767, 32_767),
         _ => (0, 65_535),
     };
-    part.times(Fraction::whole(high)).round().clamp(low, high) as i32
+    let rounded = part.times(Fraction::whole(high)).round();
+    Rounded { value: rounded.value.clamp(low, high), ..rounded }
 }
 
 /// The drive of a code.

@@ -6,7 +6,7 @@ use std::ops::Range;
 use crate::analog::Drive;
 use crate::fast::Panel;
 use crate::log;
-use crate::panel::{Answer, Event};
+use crate::panel::{Answer, Event, Halves};
 use crate::panelrun::{self, TABLE_BYTES};
 use crate::rng::Rng;
 use crate::table::{self, slot, Table, SLOTS};
@@ -56,6 +56,12 @@ fn part(answer: &Answer) -> u64 {
         + 7 * high
         + 11 * drive_part(answer.drive)
         + 13 * u64::from(answer.note)
+        + 17 * halves_part(&answer.halves)
+}
+
+/// K7: the three marks as one number.
+fn halves_part(halves: &Halves) -> u64 {
+    u64::from(halves.scaling) + 2 * u64::from(halves.linearization) + 4 * u64::from(halves.analog)
 }
 
 fn raised(number: i64) -> u64 {

@@ -4,7 +4,7 @@ use std::fmt;
 
 use crate::differ::Counts;
 use crate::measure;
-use crate::panel::{self, Event};
+use crate::panel::{self, Event, Halves};
 use crate::panelrun::{self, End, Step};
 use crate::table::{Action, Format, Table};
 use crate::telegram;
@@ -46,6 +46,15 @@ pub struct Coverage {
     pub moved_on: [u64; 3],
     pub ran_back: u64,
     pub ran_back_otherwise: u64,
+    /// K7: telegrams, and levels, with the mark of scaling, of linearization, of the analog value.
+    pub marked: [u64; 3],
+    pub marked_by_reset: [u64; 3],
+    /// Error-free telegrams with neither of the first two marks, and with one; those of each to
+    /// which halves rounded upward give another result or an error.
+    pub unmarked: u64,
+    pub unmarked_apart: u64,
+    pub halved: u64,
+    pub halved_apart: u64,
     /// Codes by analog format, and those within the limits.
     pub analog: [u64; 3],
     pub analog_within: [u64; 3],
@@ -83,6 +92,7 @@ impl Coverage {
         self.see_switches(step);
         self.see_setup(step);
         self.see_moves(step);
+        self.see_halves(step);
     }
 
     fn see_freeze(&mut self, step: &Step) {
@@ -164,6 +174,25 @@ impl Coverage {
         }
     }
 
+    fn see_halves(&mut self, step: &Step) {
+        let marks = step.answer.halves;
+        match step.event {
+            Event::Telegram(_) => count_marks(&mut self.marked, marks),
+            Event::Levels(_) => count_marks(&mut self.marked_by_reset, marks),
+            Event::Tick(_) => {}
+        }
+        let Some(apart) = upward_is_apart(step) else {
+            return;
+        };
+        if marks.scaling || marks.linearization {
+            self.halved += 1;
+            self.halved_apart += u64::from(apart);
+        } else {
+            self.unmarked += 1;
+            self.unmarked_apart += u64::from(apart);
+        }
+    }
+
     /// Every count with its name.
     fn counters(&mut self) -> Vec<(String, &mut u64)> {
         let mut list: Vec<(String, &mut u64)> = vec![
@@ -197,6 +226,15 @@ impl Coverage {
         list.extend([
             ("ran back, table forward".into(), &mut self.ran_back),
             ("ran back, table not forward".into(), &mut self.ran_back_otherwise),
+        ]);
+        let half = "with a half (scaling, linearization, analog)";
+        name_all(&mut list, &format!("telegrams {half}"), &mut self.marked);
+        name_all(&mut list, &format!("resets {half}"), &mut self.marked_by_reset);
+        list.extend([
+            ("results without a half".into(), &mut self.unmarked),
+            ("results without a half, other ones upward".into(), &mut self.unmarked_apart),
+            ("results with a half".into(), &mut self.halved),
+            ("results with a half, other ones upward".into(), &mut self.halved_apart),
         ]);
         name_all(&mut list, "codes of analog format", &mut self.analog);
         name_all(&mut list, "codes within limits, format", &mut self.analog_within);
@@ -258,6 +296,23 @@ fn moves_on(step: &Step) -> bool {
     let [last, now] = [last, word].map(|word| telegram::read(step.table, word));
     let clean = step.before.error == 0 && step.after.error == 0;
     clean && now.is_some_and(|now| last.is_some_and(|last| last.position <= now.position))
+}
+
+fn count_marks(counts: &mut [u64; 3], halves: Halves) {
+    let Halves { scaling, linearization, analog } = halves;
+    for (count, mark) in counts.iter_mut().zip([scaling, linearization, analog]) {
+        *count += u64::from(mark);
+    }
+}
+
+/// Whether halves rounded upward give another result or an error to a telegram without error.
+fn upward_is_apart(step: &Step) -> Option<bool> {
+    let Event::Telegram(word) = step.event else {
+        return None;
+    };
+    let reading = telegram::read(step.table, word).filter(|_| step.after.error == 0)?;
+    let upward = measure::measure_upward(step.table, step.after.offset, reading);
+    Some(upward != (step.after.result, 0))
 }
 
 /// Two preselections aim at one output.

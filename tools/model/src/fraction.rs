@@ -9,6 +9,13 @@ pub struct Fraction {
     lower: i128,
 }
 
+/// A rounded number. K7: the rounding itself says whether an exact half decided it.
+#[derive(Clone, Copy, Debug, PartialEq, Eq)]
+pub struct Rounded {
+    pub value: i64,
+    pub half: bool,
+}
+
 impl Fraction {
     /// upper ÷ lower, for any lower but 0.
     pub fn new(upper: i128, lower: i128) -> Fraction {
@@ -31,10 +38,24 @@ impl Fraction {
         Fraction { upper: self.upper * other.upper, lower: self.lower * other.lower }
     }
 
-    /// The sign times the whole part of (size + 1/2).
-    pub fn round(self) -> i64 {
+    pub fn negated(self) -> Fraction {
+        Fraction { upper: -self.upper, ..self }
+    }
+
+    /// The sign times the whole part of (size + 1/2), and K7's mark.
+    pub fn round(self) -> Rounded {
         let size = (2 * self.upper.abs() + self.lower).div_euclid(2 * self.lower);
-        (size * self.upper.signum()) as i64
+        Rounded { value: (size * self.upper.signum()) as i64, half: self.is_half() }
+    }
+
+    /// K7: halfway between two whole numbers, the double whole and the fraction itself not.
+    fn is_half(self) -> bool {
+        (2 * self.upper) % self.lower == 0 && self.upper % self.lower != 0
+    }
+
+    /// K7: another firmware's rounding, halves toward plus infinity.
+    pub fn round_upward(self) -> i64 {
+        (2 * self.upper + self.lower).div_euclid(2 * self.lower) as i64
     }
 }
 
@@ -56,7 +77,7 @@ mod tests {
 
     #[test]
     fn halves_go_away_from_zero() {
-        let rounded = |upper, lower| Fraction::new(upper, lower).round();
+        let rounded = |upper, lower| Fraction::new(upper, lower).round().value;
         assert_eq!(rounded(1, 2), 1);
         assert_eq!(rounded(-1, 2), -1);
         assert_eq!(rounded(1, -2), -1);
@@ -68,15 +89,34 @@ mod tests {
     }
 
     #[test]
+    fn halves_are_marked() {
+        let half = |(upper, lower)| Fraction::new(upper, lower).round().half;
+        assert!([(1, 2), (-1, 2), (1, -2), (3, 6), (-45, 10), (7, 14)].into_iter().all(half));
+        assert!(![(0, 2), (2, 2), (1, 3), (3, 4), (5, 1), (-6, 3)].into_iter().any(half));
+    }
+
+    #[test]
+    fn upward_goes_toward_plus_infinity() {
+        let upward = |(upper, lower)| Fraction::new(upper, lower).round_upward();
+        assert_eq!([(1, 2), (-1, 2), (-3, 2), (3, 2)].map(upward), [1, 0, -1, 2]);
+        assert_eq!([(-49, 100), (-51, 100), (-2, 1)].map(upward), [0, -1, -2]);
+    }
+
+    #[test]
     fn rounded_is_nearest() {
         for upper in -60..=60 {
-            assert!((1..=12).all(|lower| rounds_to_nearest(upper, lower)));
+            (1..=12).for_each(|lower| rounds_to_nearest(upper, lower));
         }
     }
 
-    fn rounds_to_nearest(upper: i128, lower: i128) -> bool {
+    fn rounds_to_nearest(upper: i128, lower: i128) {
         let exact = Fraction::new(upper, lower);
-        let off = Fraction::whole(exact.round()).plus(Fraction::new(-upper, lower));
-        off <= Fraction::new(1, 2) && off >= Fraction::new(-1, 2)
+        let Rounded { value, half } = exact.round();
+        let off = Fraction::whole(value).plus(exact.negated());
+        let (least, most) = (Fraction::new(-1, 2), Fraction::new(1, 2));
+        assert!(off >= least && off <= most);
+        assert_eq!(half, off == least || off == most);
+        // Upward parts from it at negative halves alone.
+        assert_eq!(exact.round_upward(), value + i64::from(half && upper < 0));
     }
 }

@@ -1,7 +1,7 @@
 //! From position to result: direction, offset, round loop, scaling, linearization and errors.
 //! Paper: "From telegram to result", steps 1 to 5.
 
-use crate::fraction::Fraction;
+use crate::fraction::{Fraction, Rounded};
 use crate::table::{Linearization, Point, Table, Z};
 use crate::telegram::Reading;
 
@@ -12,16 +12,26 @@ pub struct Measured {
     pub result: i64,
     /// 0, or error 1 to 3.
     pub error: u8,
+    /// K7: what the roundings of steps 3 and 4 say of themselves, whatever the error.
+    pub scaling_half: bool,
+    pub linearization_half: bool,
 }
 
 /// Steps 1 to 5 with the offset in force.
 pub fn measure(table: &Table, offset: i64, reading: Reading) -> Measured {
     let d = distance(table, offset, directed(table, reading.position));
-    let value = linearized(table, scaled(table, d));
-    match error(reading.faulty, value) {
-        0 => Measured { result: value, error: 0 },
-        error => Measured { result: 0, error },
-    }
+    let v = scaled(table, d);
+    let value = linearized(table, v.value);
+    let (result, error) = checked(reading.faulty, value.value);
+    Measured { result, error, scaling_half: v.half, linearization_half: value.half }
+}
+
+/// K7: result and error by a firmware that rounds halves upward in scaling and linearization, those
+/// of the mirrored line too.
+pub fn measure_upward(table: &Table, offset: i64, reading: Reading) -> (i64, u8) {
+    let d = distance(table, offset, directed(table, reading.position));
+    let v = stretched(table, d).round_upward() + table.additive;
+    checked(reading.faulty, bent(table, v).round_upward())
 }
 
 /// K14: direction forward, no round loop, and used y that never fall, unless linearization is off.
@@ -49,29 +59,40 @@ pub fn distance(table: &Table, offset: i64, directed: i64) -> i64 {
 }
 
 /// Step 3: v.
-pub fn scaled(table: &Table, d: i64) -> i64 {
-    let ratio = Fraction::new(table.factor.into(), table.divider.into());
-    Fraction::whole(d).times(ratio).round() + table.additive
+pub fn scaled(table: &Table, d: i64) -> Rounded {
+    let rounded = stretched(table, d).round();
+    Rounded { value: rounded.value + table.additive, ..rounded }
 }
 
-/// Step 4.
-pub fn linearized(table: &Table, v: i64) -> i64 {
+/// d × factor ÷ divider.
+fn stretched(table: &Table, d: i64) -> Fraction {
+    Fraction::whole(d).times(Fraction::new(table.factor.into(), table.divider.into()))
+}
+
+/// Step 4. K7: with linearization off, beyond the end points and at a point it rounds a whole
+/// number, which is no half.
+pub fn linearized(table: &Table, v: i64) -> Rounded {
+    bent(table, v).round()
+}
+
+/// Step 4 before its rounding.
+fn bent(table: &Table, v: i64) -> Fraction {
     match table.linearization {
-        Linearization::Off => v,
-        Linearization::OneQuadrant if v < 0 => -curve(&table.points, -v),
+        Linearization::Off => Fraction::whole(v),
+        Linearization::OneQuadrant if v < 0 => curve(&table.points, -v).negated(),
         _ => curve(&table.points, v),
     }
 }
 
 /// The line through the used points, level beyond its ends.
-fn curve(points: &[Point], v: i64) -> i64 {
+fn curve(points: &[Point], v: i64) -> Fraction {
     let (first, last) = (points[0], points[points.len() - 1]);
     if v <= first.x {
-        return first.y;
+        return Fraction::whole(first.y);
     }
     match points.windows(2).find(|pair| v <= pair[1].x) {
-        Some(pair) => line(pair[0], pair[1], v).round(),
-        None => last.y,
+        Some(pair) => line(pair[0], pair[1], v),
+        None => Fraction::whole(last.y),
     }
 }
 
@@ -84,7 +105,15 @@ fn line(left: Point, right: Point, v: i64) -> Fraction {
     from_left.plus(Fraction::whole(right.y).times(to_left))
 }
 
-/// Step 5.
+/// Step 5: result and error, the result 0 under an error.
+fn checked(faulty: bool, value: i64) -> (i64, u8) {
+    match error(faulty, value) {
+        0 => (value, 0),
+        error => (0, error),
+    }
+}
+
+/// The error of a value, 0 for none.
 fn error(faulty: bool, value: i64) -> u8 {
     if faulty {
         3

@@ -6,7 +6,7 @@ use std::fmt;
 use crate::console::{self, Command, Console, Said, Wrong, LINE};
 use crate::differ::Counts;
 use crate::modbus::{Addressee, Answered, Exception, Fault, Outcome, Place, Slave};
-use crate::panel;
+use crate::panel::{self, Event, Halves};
 use crate::table::{self, slot, Action};
 
 /// Counts by name.
@@ -25,6 +25,7 @@ pub fn names() -> Vec<String> {
     names
         .extend((2..=9).map(|number| format!("exception 3: write refused by load check {number}")));
     names.extend(EXCEPTIONS.map(String::from));
+    names.extend(HALVES.map(String::from));
     names.extend(Wrong::ALL.map(|wrong| format!("line answered: {}", wrong.words())));
     names.extend(LINES.map(String::from));
     names
@@ -68,6 +69,27 @@ const EXCEPTIONS: [&str; 10] = [
     "exception 3 before 2",
 ];
 
+/// K7: what leads to the marks that are asked for.
+const HALVES: [&str; 17] = [
+    "halves where no panel runs yet",
+    "halves before the first event",
+    "halves with the mark of scaling",
+    "halves with the mark of linearization",
+    "halves with the mark of the analog value",
+    "halves of a reset",
+    "halves gone by a telegram",
+    "halves gone by a refused event",
+    "halves gone by an error",
+    "halves gone by levels without a reset",
+    "halves gone by a refused reset",
+    "halves gone by a reset",
+    "halves gone by a tick",
+    "halves gone by a write",
+    "halves gone by a start",
+    "halves kept over a frame",
+    "halves kept over a refused start",
+];
+
 const LINES: [&str; 7] = [
     "line: blank",
     "line: remark",
@@ -102,6 +124,8 @@ struct Run {
     written: Vec<usize>,
     /// Levels before the write that began the run, where one did.
     high: Option<u8>,
+    /// K7: what the last event, frame or start did to the marks.
+    fate: Option<&'static str>,
 }
 
 impl Tally {
@@ -139,6 +163,37 @@ impl Tally {
                 self.see_frame(run, line, before, answered, after);
             }
             Said::Wrong(wrong) => self.count(format!("line answered: {}", wrong.words())),
+            Said::Halves(_) | Said::Nothing => {}
+        }
+        self.see_marks(run, line, before, said, after);
+    }
+
+    /// K7: what the marks are where they are asked for, and what led to them.
+    fn see_marks(
+        &mut self,
+        run: &mut Run,
+        line: &[u8],
+        before: &Console,
+        said: &Said,
+        after: &Console,
+    ) {
+        match said {
+            Said::Halves(halves) => {
+                self.count_if(before.events == 0, "halves before the first event");
+                self.count_if(halves.scaling, "halves with the mark of scaling");
+                self.count_if(halves.linearization, "halves with the mark of linearization");
+                self.count_if(halves.analog, "halves with the mark of the analog value");
+                if let Some(fate) = run.fate {
+                    self.count(fate);
+                }
+            }
+            Said::Wrong(wrong) => {
+                let asked = console::command(line) == Ok(Command::Halves);
+                self.count_if(asked && *wrong == Wrong::NoPanel, "halves where no panel runs yet");
+            }
+            Said::Event(..) | Said::Frame(_) | Said::Start(_) => {
+                run.fate = fate(before, said, after);
+            }
             Said::Nothing => {}
         }
     }
@@ -300,4 +355,36 @@ impl fmt::Display for Tally {
         }
         Ok(())
     }
+}
+
+/// What an event, a frame or a start did to the marks, where there were some; a reset's anyway.
+fn fate(before: &Console, said: &Said, after: &Console) -> Option<&'static str> {
+    let [had, has] = [before, after].map(|console| console.halves != Halves::default());
+    match said {
+        Said::Event(_, Event::Levels(_), _) if has => Some("halves of a reset"),
+        _ if !had => None,
+        Said::Frame(_) if has => Some("halves kept over a frame"),
+        Said::Start(_) if has => Some("halves kept over a refused start"),
+        _ if has => None,
+        Said::Event(_, event, answer) => Some(match event {
+            _ if matches!(answer.note, 10 | 11) => "halves gone by a refused event",
+            Event::Telegram(_) if answer.error != 0 => "halves gone by an error",
+            Event::Telegram(_) => "halves gone by a telegram",
+            Event::Levels(_) if answer.note == 12 => "halves gone by a refused reset",
+            Event::Levels(levels) if resets(before, *levels) => "halves gone by a reset",
+            Event::Levels(_) => "halves gone by levels without a reset",
+            Event::Tick(_) => "halves gone by a tick",
+        }),
+        Said::Frame(_) => Some("halves gone by a write"),
+        Said::Start(_) => Some("halves gone by a start"),
+        _ => None,
+    }
+}
+
+/// Whether levels ask a running panel for a reset.
+fn resets(console: &Console, levels: u8) -> bool {
+    let asks = |panel: &Slave| {
+        panel::asked(&panel.table, panel.state.levels, levels).contains(&Action::Reset)
+    };
+    console.panel.as_ref().is_some_and(asks)
 }

@@ -1,4 +1,5 @@
 //! console's lines, by request K2: words, numbers, messages and what a start and a write leave.
+//! K7: the marks that it prints.
 
 use model::console::{self, Wrong};
 
@@ -49,6 +50,16 @@ fn lines_that_are_none() {
     assert_kind(7, &["i", "i 256", "i -1", "i 07", "i 1 1", "i A"]);
     assert_kind(8, &["c", "c 65536", "c -1", "c 0 0", "c 1e3"]);
     assert_kind(9, &["f 1", "f 123", "f 0103", "f 01 g3", "f 01 +3", "f 01,03"]);
+    assert_kind(2, &["Halves", "halve", "halves\t", "halves\r\r", "halves1", " #halves"]);
+    assert_kind(11, &["halves 1", "halves 0 0 0", "  halves  halves \r", "halves #", "halves \t"]);
+}
+
+#[test]
+fn messages_of_halves() {
+    let words = "? no such word; the words are node, slot, start, halves, t, i, c and f\n";
+    assert_eq!(said(b"x"), words);
+    assert_eq!(said(b"halves 1"), "? halves takes nothing\n");
+    assert_eq!(run("halves\n"), "? no panel runs yet; start one\n");
 }
 
 #[test]
@@ -98,6 +109,8 @@ fn before_the_first_start() {
     assert_eq!(run(text), format!("{none}{none}{none}{none}{}{}", message(6), message(9)));
     // A refused start starts nothing.
     assert_eq!(run("node 0\nstart\nt 5\n"), format!("start 33 0\n{none}"));
+    let asked = "halves\nhalves 1\nnode 0\nstart\nhalves\n";
+    assert_eq!(run(asked), format!("{none}{}start 33 0\n{none}", message(11)));
 }
 
 #[test]
@@ -166,6 +179,153 @@ frame 0 01 90 03 0C 01
 2 T 7 7 0 0000 23 0
 ";
     assert_eq!(run(text), expected);
+}
+
+/// Factor 1.5, so that d = 1 gives 1.5.
+const BY_3_HALVES: &str = "slot 2 1\nslot 10 150000\nstart\n";
+
+#[test]
+fn halves_of_the_last_answer() {
+    let text = "\
+halves
+t 1
+halves
+  halves \r
+#
+node 9
+slot 12 5
+t x
+halves 1
+halves
+c 5
+halves
+t 1
+t 4000000
+halves
+t 1
+i 8
+halves
+t 1
+i 1
+halves
+";
+    let expected = format!(
+        "\
+start 0 0
+halves 0 0 0
+1 T 2 2 0 0000 7 0
+halves 1 0 0
+halves 1 0 0
+{}{}halves 1 0 0
+2 C 2 2 0 0000 7 0
+halves 0 0 0
+3 T 2 2 0 0000 7 0
+4 T 2 2 0 0000 7 11
+halves 0 0 0
+5 T 2 2 0 0000 7 0
+6 I 2 2 0 0000 7 10
+halves 0 0 0
+7 T 2 2 0 0000 7 0
+8 I 2 2 0 0000 7 0
+halves 0 0 0
+",
+        message(6),
+        message(11)
+    );
+    assert_eq!(run(&format!("{BY_3_HALVES}{text}")), expected);
+}
+
+#[test]
+fn halves_in_all_three_places() {
+    // (−100, −50), (0, 0), (200, 300), A = 1, analog end 10, reset on input 1. d = 1: 1.5, v = 3,
+    // 4.5, r = 5, 16,383.5. After the reset v = 1, 1.5, r = 2, 6,553.4.
+    let text = "\
+slot 12 1
+slot 13 2
+slot 55 3
+slot 56 -100
+slot 57 -50
+slot 60 200
+slot 61 300
+slot 16 10
+slot 49 1
+start
+t 1
+halves
+i 1
+halves
+i 0
+halves
+";
+    let expected = "\
+start 0 0
+start 0 0
+1 T 5 5 0 0000 16384 0
+halves 1 1 1
+2 I 2 2 0 0000 6553 0
+halves 0 1 0
+3 I 2 2 0 0000 6553 0
+halves 0 0 0
+";
+    assert_eq!(run(&format!("{BY_3_HALVES}{text}")), expected);
+}
+
+#[test]
+fn halves_over_frames_and_writes() {
+    // No bytes, another node, a read, a refused write; a write of slot 12, and one to all.
+    let text = "\
+t 1
+f
+halves
+f 07 03 00 22 00 02 64 67
+halves
+f 01 03 00 00 00 02 C4 0B
+halves
+f 01 10 00 00 00 02 04 00 00 00 00 F3 AF
+halves
+f 01 10 00 18 00 02 04 00 01 00 00 A2 C5
+halves
+t 1
+halves
+f 00 10 00 18 00 02 04 00 02 00 00 56 39
+halves
+";
+    let expected = "\
+start 0 0
+1 T 2 2 0 0000 7 0
+frame 20 -
+halves 1 0 0
+frame 0 -
+halves 1 0 0
+frame 0 01 03 04 00 19 00 00 2B F4
+halves 1 0 0
+frame 0 01 90 03 0C 01
+halves 1 0 0
+frame 0 01 10 00 18 00 02 C1 CF
+halves 0 0 0
+1 T 3 3 0 0000 10 0
+halves 1 0 0
+frame 0 -
+halves 0 0 0
+";
+    assert_eq!(run(&format!("{BY_3_HALVES}{text}")), expected);
+}
+
+#[test]
+fn halves_over_starts() {
+    let text =
+        "t 1\nnode 0\nstart\nhalves\nnode 1\nslot 0 9\nstart\nhalves\nslot 0 25\nstart\nhalves\n";
+    let expected = "\
+start 0 0
+1 T 2 2 0 0000 7 0
+start 33 0
+halves 1 0 0
+start 2 0
+halves 1 0 0
+start 0 0
+halves 0 0 0
+";
+    assert_eq!(run(&format!("{BY_3_HALVES}{text}")), expected);
 }
 
 #[test]

@@ -26,11 +26,11 @@ fn long_curve(used: i32) -> model::table::Table {
 #[test]
 fn highest_used_point_at_most_v() {
     let all = long_curve(24);
-    let values = [2_400, 2_300, 2_250, 1_150, 50, -50].map(|v| linearized(&all, v));
+    let values = [2_400, 2_300, 2_250, 1_150, 50, -50].map(|v| linearized(&all, v).value);
     assert_eq!(values, [5_290, 5_290, 5_065, 1_325, 5, 0]);
     // Points behind the twelfth, 1,200 to 2,200, lie below 2,250 and do not count.
     let twelve = long_curve(12);
-    let values = [2_250, 1_100, 1_050, 50].map(|v| linearized(&twelve, v));
+    let values = [2_250, 1_100, 1_050, 50].map(|v| linearized(&twelve, v).value);
     assert_eq!(values, [1_210, 1_210, 1_105, 5]);
 }
 

@@ -34,9 +34,9 @@ fn round_loop_below_the_offset() {
 #[test]
 fn scaling_rounds_halves_away_from_zero() {
     let plain = table(&[(10, 150_000)]);
-    assert_eq!([1, -1, 3].map(|d| scaled(&plain, d)), [2, -2, 5]);
+    assert_eq!([1, -1, 3].map(|d| scaled(&plain, d).value), [2, -2, 5]);
     let additive = table(&[(10, 150_000), (12, -2)]);
-    assert_eq!(scaled(&additive, 1), 0);
+    assert_eq!(scaled(&additive, 1).value, 0);
 }
 
 /// (−100, −50), (0, 0), (200, 300)
@@ -46,15 +46,15 @@ const FOUR_QUADRANTS: [(usize, i32); 8] =
 #[test]
 fn four_quadrants() {
     let table = table(&FOUR_QUADRANTS);
-    assert_eq!([3, -1, 201, -150].map(|v| linearized(&table, v)), [5, -1, 300, -50]);
+    assert_eq!([3, -1, 201, -150].map(|v| linearized(&table, v).value), [5, -1, 300, -50]);
 }
 
 #[test]
 fn one_quadrant_mirrors() {
     let table = table(&[(13, 1), (55, 3), (58, 10), (59, 5), (60, 20), (61, -7)]);
-    let values = [0, 1, 9, 10, 15, 20, 21].map(|v| linearized(&table, v));
+    let values = [0, 1, 9, 10, 15, 20, 21].map(|v| linearized(&table, v).value);
     assert_eq!(values, [0, 1, 5, 5, -1, -7, -7]);
-    assert_eq!([-1, -9, -15, -30].map(|v| linearized(&table, v)), [-1, -5, 1, 7]);
+    assert_eq!([-1, -9, -15, -30].map(|v| linearized(&table, v).value), [-1, -5, 1, 7]);
 }
 
 #[test]
@@ -82,10 +82,10 @@ fn mode_5_around_the_preselection() {
 #[test]
 fn half_of_the_analog_span() {
     let volts = table(&[]);
-    assert_eq!(code(&volts, 5_000), 16_384);
+    assert_eq!(code(&volts, 5_000).value, 16_384);
     assert_eq!(last(&volts, &[Telegram(5_000)]).drive, Drive::Volts(5.0));
     let milliamps = table(&[(14, 2)]);
-    assert_eq!(code(&milliamps, 5_000), 32_768);
+    assert_eq!(code(&milliamps, 5_000).value, 32_768);
     assert_eq!(last(&milliamps, &[Telegram(5_000)]).drive, Drive::Milliamps(12.0));
 }
 
@@ -93,12 +93,12 @@ fn half_of_the_analog_span() {
 fn codes_are_held_to_their_limits() {
     let codes = |format, results: [i64; 4]| {
         let table = table(&[(14, format)]);
-        results.map(|result| code(&table, result))
+        results.map(|result| code(&table, result).value)
     };
     assert_eq!(codes(0, [-20_000, -10_000, 10_000, 20_000]), [-32_767, -32_767, 32_767, 32_767]);
     assert_eq!(codes(1, [-20_000, -1, 10_000, 20_000]), [0, 0, 65_535, 65_535]);
     let falling = table(&[(15, 10), (16, -10)]);
-    assert_eq!([10, 0, -10, 11].map(|r| code(&falling, r)), [0, 16_384, 32_767, -1_638]);
+    assert_eq!([10, 0, -10, 11].map(|r| code(&falling, r).value), [0, 16_384, 32_767, -1_638]);
 }
 
 #[test]

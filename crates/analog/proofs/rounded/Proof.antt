@@ -43,7 +43,7 @@ returns : tie.Need-returns
 returns c =
     let l = c .before .lower in
     let s = c .before .before .before .before in
-    rw (back-at w64 (c .round-div .result) (c .round-div .ok), c .round-div .ensures)
+    rw (c .round-div .ensures)
     (rw (toZ-ofZ (mul-round-div (c .before .before)), scale-is (c .before .before .before), upper-is (c .before .before))
     (rw (back-at w64 (l .result) (l .ok), l .ensures, toZ-ofZ (s .fits .start), toZ-ofZ (s .fits .end))))
 

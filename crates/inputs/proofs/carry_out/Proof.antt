@@ -1,6 +1,7 @@
--- `inputs::carry_out` meets its contract: each arm of the match is a clause of the definition.
+-- `inputs::carry_out` meets its contract: each arm of the match is a clause of the definition, and the reset's alone brings marks.
 use borrow.Author.Needs.{needs}
-use Rattle.inputs.specs.Commands.{clearLocksOf, clearExtremesOf, carriedOut}
+use borrow.Author.Tests.{eq-eqb}
+use Rattle.inputs.specs.Commands.{clearLocksOf, clearExtremesOf, carriedOut, marksAfter}
 use Rattle.inputs.specs.CommandLaws.{reset-allowed}
 use Rattle.inputs.proofs.carry_out.Statement.{statement}
 use Rattle.inputs.proofs.carry_out.Tie as tie
@@ -13,7 +14,7 @@ enum-told-2 c = search needs
 
 reset-requires : tie.Need-reset-requires
 reset-requires c κs = let b = c .before in
-    let s = b .before .before in
+    let s = b .before .before .before in
     (s .pre .0, reset-allowed _ (rw (b .enum-told2 .given .1) at (s .pre .1 .1)))
 
 enum-told-3 : tie.Need-enum-told-3
@@ -25,42 +26,66 @@ enum-told-4 c = search needs
 clear-locks-requires : tie.Need-clear-locks-requires
 clear-locks-requires c κs = search needs
 
+unmarked-requires : tie.Need-unmarked-requires
+unmarked-requires c κs = search needs
+
 enum-told-5 : tie.Need-enum-told-5
 enum-told-5 c = search needs
 
 clear-extremes-requires : tie.Need-clear-extremes-requires
 clear-extremes-requires c κs = search needs
 
+unmarked-requires-2 : tie.Need-unmarked-requires-2
+unmarked-requires-2 c κs = search needs
+
 enum-known-a : tie.Need-enum-known-a
 enum-known-a c = search needs
 
 teach-requires : tie.Need-teach-requires
 teach-requires c κs = let b = c .before in
-    rw (b .before .a .given .1) at (b .before .before .before .pre .1 .0)
+    rw (b .before .a .given .1) at (b .before .before .before .before .pre .1 .0)
+
+unmarked-requires-3 : tie.Need-unmarked-requires-3
+unmarked-requires-3 c κs = search needs
 
 returns : tie.Need-returns
-unfolding carriedOut
-returns c = rw (c .enum-told .given .1)
+unfolding carriedOut marksAfter
+returns c = let told = c .enum-told .given .1 in
+    (rw told, rw told)
 
 returns-2 : tie.Need-returns-2
-unfolding carriedOut
-returns-2 c = rw (c .before .before .enum-told2 .given .1, c .reset .ensures)
+unfolding carriedOut marksAfter
+returns-2 c =
+    let b = c .before .before in
+    let told = b .enum-told2 .given .1 in
+    let done = rw told at (b .before .before .before .pre .1 .1) in
+    (rw told (c .reset .ensures .0), rw (told, eq-eqb _ _ done) (c .reset .ensures .1))
 
 returns-3 : tie.Need-returns-3
-unfolding carriedOut
-returns-3 c = rw (c .enum-told3 .given .1)
+unfolding carriedOut marksAfter
+returns-3 c = let told = c .enum-told3 .given .1 in
+    (rw told, rw told)
 
 returns-4 : tie.Need-returns-4
-unfolding carriedOut clearLocksOf
-returns-4 c = rw (c .before .enum-told4 .given .1, c .clear-locks .ensures)
+unfolding carriedOut marksAfter clearLocksOf
+returns-4 c =
+    let x = c .before in
+    let told = x .before .enum-told4 .given .1 in
+    (rw (told, c .unmarked .ensures, x .clear-locks .ensures), rw (told, c .unmarked .ensures))
 
 returns-5 : tie.Need-returns-5
-unfolding carriedOut clearExtremesOf
-returns-5 c = rw (c .before .enum-told5 .given .1, c .clear-extremes .ensures)
+unfolding carriedOut marksAfter clearExtremesOf
+returns-5 c =
+    let x = c .before in
+    let told = x .before .enum-told5 .given .1 in
+    (rw (told, c .unmarked2 .ensures, x .clear-extremes .ensures), rw (told, c .unmarked2 .ensures))
 
 returns-6 : tie.Need-returns-6
-unfolding carriedOut
-returns-6 c = rw (c .before .before .before .a .given .1, c .teach .ensures)
+unfolding carriedOut marksAfter
+returns-6 c =
+    let x = c .before in
+    let told = x .before .before .before .a .given .1 in
+    (rw (told, c .unmarked3 .ensures) (x .teach .ensures), rw (told, c .unmarked3 .ensures))
 
 pub carry-out-spec : {M : Type 1} → statement M
 carry-out-spec =
@@ -72,10 +97,13 @@ carry-out-spec =
     enum-told-3
     enum-told-4
     clear-locks-requires
+    unmarked-requires
     enum-told-5
     clear-extremes-requires
+    unmarked-requires-2
     enum-known-a
     teach-requires
+    unmarked-requires-3
     returns
     returns-2
     returns-3

@@ -28,7 +28,9 @@ reread-requires c κs = let b = c .before in
 returns : tie.Need-returns
 unfolding resetOf
 returns c = let b = c .before .before in
-    rw (c .reread .ensures, b .store-offset .ensures, directed-is b)
+    let is = rw (b .store-offset .ensures, directed-is b) at (c .reread .ensures .0) in
+    let marks = rw (b .store-offset .ensures, directed-is b) at (c .reread .ensures .1) in
+    (rw (b .store-offset .ensures, directed-is b) is, marks)
 
 pub reset-spec : {M : Type 1} → statement M
 reset-spec = tie.close (tie.spec cast-store-offset store-offset-requires reread-requires returns)

@@ -4,12 +4,11 @@ use mathlib.Core.Path.{sym, ap, _∙_}
 use native.Mathlib.Omega.{arith}
 use lib.IntN.{pos}
 use lib.ListN.{getD}
-use mir.Syntax.{w32, w64}
+use mir.Syntax.{w32}
 use mir.Val.{SFits}
 use mir.Facts.{toZ-ofZ}
 use Rattle.integers.specs.IntLaws.{ints, back-at}
-use Rattle.integers.specs.RoundLaws.{round-one}
-use Rattle.integers.specs.Fraction.{nearest}
+use Rattle.integers.specs.Fraction.{rounded}
 use Rattle.measurement.specs.SearchLaws.{value-none}
 use Rattle.measurement.proofs.four_quadrants.Statement.{statement}
 use Rattle.measurement.proofs.four_quadrants.Tie as tie
@@ -28,27 +27,30 @@ from-point-requires c κs =
 enum-told : tie.Need-enum-told
 enum-told c = search needs
 
-shared-slice-copy-out-result : tie.Need-shared-slice-copy-out-result
-shared-slice-copy-out-result c = let u = c .before .before .before .pre in omega (arith, u .long, u .some)
+shared-slice-copy-out-whole : tie.Need-shared-slice-copy-out-whole
+shared-slice-copy-out-whole c = let u = c .before .before .before .pre in omega (arith, u .long, u .some)
 
-cast-result : tie.Need-cast-result
-cast-result c =
-    let f : SFits w32 (getD (c .before .before .before .before .args .points .now) 1 (pos 0)) = record { sfits = c .result .given } in
+cast-whole : tie.Need-cast-whole
+cast-whole c =
+    let f : SFits w32 (getD (c .before .before .before .before .args .points .now) 1 (pos 0)) = record { sfits = c .whole-arg .given } in
     omega (arith, ints)
+
+whole-requires : tie.Need-whole-requires
+whole-requires c κs = search needs
 
 returns : tie.Need-returns
 returns c =
     let s = c .before .before .before .before .before in
-    rw (back-at w64 (c .from-point .result) (c .from-point .ok)) (rw (toZ-ofZ (s .fits .v)) at (c .from-point .ensures))
+    rw (toZ-ofZ (s .fits .v)) at (c .from-point .ensures)
 
 returns-2 : tie.Need-returns-2
 returns-2 c =
-    let s = c .before .before .before .before in
-    let h = c .before .before .before .highest in
-    let e = rw (toZ-ofZ (s .fits .v)) at (sym (h .ensures) ∙ c .before .enum-told .given .1) in
-    rw (toZ-ofZ (cast-result c), back-at w32 (getD (s .args .points .now) 1 (pos 0)) (c .result .given))
-    (sym (ap nearest (value-none (s .pre) (s .args .v) e) ∙ round-one _))
+    let s = c .before .before .before .before .before in
+    let h = c .before .before .before .before .highest in
+    let e = rw (toZ-ofZ (s .fits .v)) at (sym (h .ensures) ∙ c .before .before .enum-told .given .1) in
+    let w = rw (toZ-ofZ (cast-whole (c .before)), back-at w32 (getD (s .args .points .now) 1 (pos 0)) (c .before .whole-arg .given)) at (c .whole .ensures) in
+    w ∙ ap rounded (sym (value-none (s .pre) (s .args .v) e))
 
 pub four-quadrants-spec : {M : Type 1} → statement M
 four-quadrants-spec =
-    tie.close (tie.spec highest-requires enum-known-i from-point-requires enum-told shared-slice-copy-out-result cast-result returns returns-2)
+    tie.close (tie.spec highest-requires enum-known-i from-point-requires enum-told shared-slice-copy-out-whole cast-whole whole-requires returns returns-2)

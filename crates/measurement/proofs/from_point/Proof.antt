@@ -5,12 +5,11 @@ use Prim.Native.Nat.{_+_, _*_, _≤_, _<_}
 use native.Mathlib.Omega.{arith}
 use lib.IntN.{pos}
 use lib.ListN.{length, getD}
-use mir.Syntax.{w32, w64}
+use mir.Syntax.{w32}
 use mir.Val.{SFits}
 use mir.Facts.{toZ-ofZ}
 use Rattle.integers.specs.IntLaws.{ints, back-at}
-use Rattle.integers.specs.RoundLaws.{round-one}
-use Rattle.integers.specs.Fraction.{nearest}
+use Rattle.integers.specs.Fraction.{rounded}
 use Rattle.measurement.specs.SearchLaws.{found-at, value-last, value-words, on-words}
 use Rattle.measurement.proofs.from_point.Statement.{statement}
 use Rattle.measurement.proofs.from_point.Tie as tie
@@ -25,26 +24,29 @@ mul-k c = let h = here c in search needs
 add-if1 : tie.Need-add-if1
 add-if1 c = let h = here c in search needs
 
-add-result : tie.Need-add-result
-add-result c = let h = here (c .before) in search needs
+add-whole : tie.Need-add-whole
+add-whole c = let h = here (c .before) in search needs
 
-mul-result : tie.Need-mul-result
-mul-result c = let h = here (c .before) in search needs
+mul-whole : tie.Need-mul-whole
+mul-whole c = let h = here (c .before) in search needs
 
-shared-slice-copy-out-result : tie.Need-shared-slice-copy-out-result
-shared-slice-copy-out-result c = let h = here (c .before) in search needs
+shared-slice-copy-out-whole : tie.Need-shared-slice-copy-out-whole
+shared-slice-copy-out-whole c = let h = here (c .before) in search needs
 
-cast-result : tie.Need-cast-result
-cast-result c =
-    let f : SFits w32 (getD (c .before .before .args .points .now) (2 * c .before .before .args .i + 1) (pos 0)) = record { sfits = c .result .given } in
+cast-whole : tie.Need-cast-whole
+cast-whole c =
+    let f : SFits w32 (getD (c .before .before .args .points .now) (2 * c .before .before .args .i + 1) (pos 0)) = record { sfits = c .whole-arg .given } in
     omega (arith, ints)
+
+whole-requires : tie.Need-whole-requires
+whole-requires c κs = search needs
 
 returns : tie.Need-returns
 returns c =
-    let s = c .before .before in
+    let s = c .before .before .before in
     let ws = s .args .points .now in
-    rw (toZ-ofZ (cast-result c), back-at w32 (getD ws (2 * s .args .i + 1) (pos 0)) (c .result .given))
-    (sym (ap nearest (value-last (s .pre .0) (s .args .v) (s .args .i) (s .pre .1) (c .before .if1 .taken)) ∙ round-one _))
+    let e = rw (toZ-ofZ (cast-whole (c .before)), back-at w32 (getD ws (2 * s .args .i + 1) (pos 0)) (c .before .whole-arg .given)) at (c .whole .ensures) in
+    e ∙ ap rounded (sym (value-last (s .pre .0) (s .args .v) (s .args .i) (s .pre .1) (c .before .before .if1 .taken)))
 
 more : (c : tie.Else1) → c .before .args .i + 1 < c .before .args .n
 more c = omega (arith, c .if1 .left, found-at _ _ _ _ (c .before .pre .1) .used)
@@ -112,7 +114,7 @@ returns-2 c =
       back-at w32 (getD ws (2 * i + 3) (pos 0)) (b .on-line-arg4 .given),
       toZ-ofZ (s .fits .v),
     ) at (c .on-line .ensures) in
-    rw (back-at w64 (c .on-line .result) (c .on-line .ok)) (e ∙ sym (value-words (s .pre .0) (s .args .v) i (s .pre .1) (more (b .before .before .before .before))))
+    e ∙ sym (value-words (s .pre .0) (s .args .v) i (s .pre .1) (more (b .before .before .before .before)))
 
 pub from-point-spec : {M : Type 1} → statement M
 from-point-spec =
@@ -120,10 +122,11 @@ from-point-spec =
     (tie.spec
     mul-k
     add-if1
-    add-result
-    mul-result
-    shared-slice-copy-out-result
-    cast-result
+    add-whole
+    mul-whole
+    shared-slice-copy-out-whole
+    cast-whole
+    whole-requires
     returns
     mul-on-line
     shared-slice-copy-out-on-line

@@ -4,7 +4,9 @@ use mathlib.Core.Path.{_≡_, _∙_}
 use native.Mathlib.Omega.{arith}
 use mir.Syntax.{w32, w64}
 use Rattle.integers.specs.IntLaws.{bk, back-at}
-use Rattle.measurement.specs.Measure.{distanceOf, scaledOf, usedPoints, valueOf, measuredOf}
+use Rattle.integers.specs.Round.{rounding}
+use Rattle.measurement.specs.Curve.{linearizedOf, linearizedBy}
+use Rattle.measurement.specs.Measure.{distanceOf, distanceAt, scaledBy, scaledAt, usedPoints, valueOf, measuredOf, scalingHalf, lineHalf, measurementOf}
 use Rattle.measurement.specs.MeasureLaws.{distance-within, scaled-within}
 use Rattle.measurement.proofs.measure.Statement.{statement}
 use Rattle.measurement.proofs.measure.Tie as tie
@@ -26,19 +28,26 @@ scaled-requires c κs =
     (rw (d-is (c .before)) (distance-within (a .args .p) (a .args .s .offset) (a .args .s .«round_loop») (omega arith) (p .offset) (p .round-loop)), p .factor)
 
 -- v
-v-is : (c : tie.After-scaled) → let s = c .before .before .before .before .args in
-    bk w64 (c .scaled .result) ≡ scaledOf (distanceOf (s .p) (s .s .offset) (s .s .«round_loop»)) (s .s .factor) (s .s .divider) (s .s .additive)
+v-is : (c : tie.After-scaled) → let a = c .before .before .before .before .args in
+    c .scaled .result ≡ scaledBy (distanceAt (a .s) (a .p)) (a .s .factor) (a .s .divider) (a .s .additive)
 v-is c =
     let s = c .before .before .before .before .args .s in
     let e : bk w32 (s .additive) ≡ s .additive = search needs in
-    back-at w64 (c .scaled .result) (c .scaled .ok) ∙ (rw (d-is (c .before .before), e) at (c .scaled .ensures))
+    rw (d-is (c .before .before), e) at (c .scaled .ensures)
+
+-- v as the next step is given it
+v-kept : (c : tie.After-struct-told3) → let a = c .before .before .before .before .before .args in bk w64 (c .before .scaled .result .value) ≡ scaledAt (a .s) (a .p)
+unfolding scaledBy
+v-kept c =
+    let v : bk w64 (c .before .scaled .result .value) ≡ c .before .scaled .result .value = search needs in
+    rw (v, v-is (c .before))
 
 linearized-requires : tie.Need-linearized-requires
 linearized-requires c κs =
-    let a = c .before .before .before .before in
+    let a = c .before .before .before .before .before in
     let p = a .pre in (
       p .curve,
-      rw (v-is c)
+      rw (v-kept c)
           (scaled-within _ (a .args .s .factor) (a .args .s .divider) (a .args .s .additive)
           (distance-within (a .args .p) (a .args .s .offset) (a .args .s .«round_loop») (omega arith) (p .offset) (p .round-loop)) (p .factor) (p .additive)),
     )
@@ -47,10 +56,12 @@ judged-requires : tie.Need-judged-requires
 judged-requires c κs = search needs
 
 returns : tie.Need-returns
-unfolding measuredOf valueOf usedPoints
+unfolding measurementOf measuredOf valueOf usedPoints scalingHalf lineHalf linearizedBy linearizedOf rounding
 returns c =
-    let l = c .before .linearized in
-    rw (c .judged .ensures, back-at w64 (l .result) (l .ok), l .ensures, v-is (c .before .before))
+    let l = c .before .before .linearized in
+    let n = c .before .before .before in
+    let w : bk w64 (l .result .value) ≡ l .result .value = search needs in
+    rw (c .judged .ensures, w, l .ensures, v-kept n, v-is (n .before))
 
 pub measure-spec : {M : Type 1} → statement M
 measure-spec = tie.close (tie.spec distance-requires scaled-requires linearized-requires judged-requires returns)

@@ -8,7 +8,7 @@ use lib.Signed.{_<ℤ_}
 use mir.Syntax.{w32, w64}
 use mir.Facts.{toZ-ofZ}
 use Rattle.integers.specs.Limit.{Z}
-use Rattle.integers.specs.IntLaws.{bk, ints, excl, kept, within, add-within, sub-within, mul-within, fits-within, mul-fits, back-at}
+use Rattle.integers.specs.IntLaws.{bk, ints, excl, kept, within, add-within, sub-within, mul-within, fits-within, mul-fits}
 use Rattle.integers.specs.Int.{Within}
 use Rattle.measurement.specs.SearchLaws.{line-value}
 use Rattle.measurement.proofs.on_line.Statement.{statement}
@@ -84,7 +84,7 @@ returns c =
     let f = s .fits in
     let e = rw (toZ-ofZ (add-round-div s), toZ-ofZ (mul-start s), toZ-ofZ (mul-rise s), toZ-ofZ (sub-rise s), toZ-ofZ (sub-dx s), toZ-ofZ (sub-dy s), toZ-ofZ (cast-dx s), toZ-ofZ (cast-dx-2 s), toZ-ofZ (cast-dy s), toZ-ofZ (cast-dy-2 s), toZ-ofZ (f .x), toZ-ofZ (f .y), toZ-ofZ (f .x1), toZ-ofZ (f .y1), toZ-ofZ (f .v)) at (q .ensures) in
     let l : s .args .x <ℤ s .args .x1 = omega (arith, ints, s .pre .from, s .pre .to) in
-    rw (back-at w64 (q .result) (q .ok)) (e ∙ line-value (s .args .x) (s .args .y) (s .args .x1) (s .args .y1) (s .args .v) l)
+    e ∙ line-value (s .args .x) (s .args .y) (s .args .x1) (s .args .y1) (s .args .v) l
 
 pub on-line-spec : {M : Type 1} → statement M
 on-line-spec =

@@ -7,8 +7,9 @@ use lib.IntN.{pos}
 use mir.Syntax.{w64}
 use mir.Val.{toZ}
 use mir.Facts.{toZ-ofZ, toZ-pos}
-use Rattle.integers.specs.IntLaws.{bk, ints, fit, fit-at, back-at, kept, mul-within, mul-fits}
+use Rattle.integers.specs.IntLaws.{bk, ints, fit, kept, mul-within, mul-fits}
 use Rattle.integers.specs.Int.{Within}
+use Rattle.integers.specs.Round.{rounding}
 use Rattle.integers.specs.RoundLaws.{round-within}
 use Rattle.measurement.specs.MeasureLaws.{scaled-is}
 use Rattle.measurement.proofs.scaled.Statement.{statement}
@@ -36,24 +37,27 @@ cast-round-div-2 c = search needs
 round-div-requires : tie.Need-round-div-requires
 round-div-requires c κs = search needs
 
-cast-result : tie.Need-cast-result
-cast-result c = omega (arith, ints)
+cast-value : tie.Need-cast-value
+cast-value c = omega (arith, ints)
 
-add-result : tie.Need-add-result
-add-result c =
-    let s = c .before in
-    let q = c .round-div in
+add-value : tie.Need-add-value
+unfolding rounding
+add-value c =
+    let s = c .before .before .before in
+    let q = c .before .before .round-div in
     let w = round-within (toZ w64 (s .args .divider)) (kept (mul-round-div s) (mul-within (d-size s) (factor-size s))) in
-    omega (arith, ints, fit-at w64 (q .result) (q .ok), q .ensures, w .above, w .below, fit (cast-result c))
+    let v : bk w64 (q .result .value) ≡ q .result .value = search needs in
+    rw (v, q .ensures) (omega (arith, ints, w .above, w .below, fit (cast-value (c .before .before))))
 
 returns : tie.Need-returns
 returns c =
-    let s = c .before in
-    let q = c .round-div in
+    let s = c .before .before .before in
+    let q = c .before .before .round-div in
     let e = rw (toZ-ofZ (mul-round-div s), toZ-ofZ (s .fits .d), factor-is s, toZ-pos w64 {n = s .args .divider} (omega arith)) at (q .ensures) in
-    rw (toZ-ofZ (add-result c), back-at w64 (q .result) (q .ok), toZ-ofZ (cast-result c), toZ-ofZ (s .fits .additive))
+    let v : bk w64 (q .result .value) ≡ q .result .value = search needs in
+    rw (toZ-ofZ (add-value c), v, toZ-ofZ (cast-value (c .before .before)), toZ-ofZ (s .fits .additive))
     (scaled-is (s .args .d) (s .args .factor) (s .args .divider) (s .args .additive) (q .result) e)
 
 pub scaled-spec : {M : Type 1} → statement M
 scaled-spec =
-    tie.close (tie.spec cast-round-div mul-round-div cast-round-div-2 round-div-requires cast-result add-result returns)
+    tie.close (tie.spec cast-round-div mul-round-div cast-round-div-2 round-div-requires cast-value add-value returns)

@@ -29,19 +29,19 @@ promised s e r g is = (is, subst (λ (a : Answer). Good (a .state)) (sym is) (go
 
 -- an event with which switching and display follow
 ended : (t : List ℤ) (b : Begun) (l : Live) (a : Answer) → b .settles ≡ true → stateOf t l ≡ settledOf (stateOf t (b .live)) → answerAfter t b ≡ a →
-    answerOf (stateOf t l) (b .note) ≡ a
-ended t b l a on s e = ap (λ (x : State). answerOf x (b .note)) s ∙ (rw on at e)
+    answerOf (stateOf t l) (b .note) (b .halves) ≡ a
+ended t b l a on s e = ap (λ (x : State). answerOf x (b .note) (b .halves)) s ∙ (rw on at e)
 
 returns : tie.Need-returns
 unfolding answerOf
 returns c = let test = c .before .before in
-    let b = test .before .before in
+    let b = test .before .before .before in
     let a = b .before .before in
     promised _ (a .args .e) _ (a .pre) (ended _ (b .begin .result) (c .settle .result) _ (test .if1 .taken) (c .settle .ensures) (b .begin .ensures))
 
 returns-2 : tie.Need-returns-2
 unfolding answerOf
-returns-2 c = let b = c .before .before in
+returns-2 c = let b = c .before .before .before in
     let a = b .before .before in
     promised _ (a .args .e) _ (a .pre) (rw (c .if1 .left) at (b .begin .ensures))
 

@@ -1,13 +1,16 @@
--- `panel::on_levels` meets its contract: refused it leaves the old values, else what the commands leave, with the new levels.
+-- `panel::on_levels` meets its contract: refused it leaves the old values, else what the commands leave, with the new levels and the marks of a reset.
 use borrow.Author.Needs.{needs}
 use borrow.Author.Tests.{lt-leb, le-leb}
 use Rattle.panel.specs.Step.{onLevels}
 use Rattle.panel.proofs.on_levels.Statement.{statement}
 use Rattle.panel.proofs.on_levels.Tie as tie
 
+refused-requires : tie.Need-refused-requires
+refused-requires c κs = search needs
+
 returns : tie.Need-returns
 unfolding onLevels
-returns c = rw (lt-leb _ _ (c .if1 .taken))
+returns c = rw (lt-leb _ _ (c .before .if1 .taken), c .refused .ensures)
 
 act-requires : tie.Need-act-requires
 act-requires c κs = search needs
@@ -17,8 +20,10 @@ with-levels-requires c κs = search needs
 
 returns-2 : tie.Need-returns-2
 unfolding onLevels
-returns-2 c = let x = c .before .before in
-    rw (le-leb _ _ (x .before .before .if1 .left), c .with-levels .ensures, ← x .act .ensures)
+returns-2 c =
+    let n = c .before in
+    let x = n .before .before in
+    rw (le-leb _ _ (x .before .before .if1 .left), n .with-levels .ensures, ← x .act .ensures .0, x .act .ensures .1)
 
 pub on-levels-spec : {M : Type 1} → statement M
-on-levels-spec = tie.close (tie.spec returns act-requires with-levels-requires returns-2)
+on-levels-spec = tie.close (tie.spec refused-requires returns act-requires with-levels-requires returns-2)

@@ -1,7 +1,7 @@
 -- `reading::measured` meets its contract: scaling and points of a valid table are sound.
 use borrow.Author.Needs.{needs}
 use Rattle.settings.specs.SettingsLaws.{scaling-sound}
-use Rattle.reading.specs.Reading.{measuredAt}
+use Rattle.reading.specs.Reading.{measurementAt}
 use Rattle.reading.proofs.measured.Statement.{statement}
 use Rattle.reading.proofs.measured.Tie as tie
 
@@ -17,7 +17,7 @@ measure-requires c κs =
     rw (b .scaling .ensures, c .points .ensures) (scaling-sound (b .before .pre))
 
 returns : tie.Need-returns
-unfolding measuredAt
+unfolding measurementAt
 returns c = let b = c .before in
     rw (c .measure .ensures, b .before .before .scaling .ensures, b .points .ensures)
 

@@ -65,6 +65,12 @@ enum-told-5 c = search needs
 wrong-requires-3 : tie.Need-wrong-requires-3
 wrong-requires-3 c κs = search needs
 
+enum-told-6 : tie.Need-enum-told-6
+enum-told-6 c = search needs
+
+wrong-requires-4 : tie.Need-wrong-requires-4
+wrong-requires-4 c κs = search needs
+
 returns : tie.Need-returns
 unfolding afterPlain plainText
 returns c =
@@ -150,6 +156,16 @@ returns-9 c =
     let told = rw (x .before .before .before .before .read .ensures) at (x .before .before .enum-told5 .given .1) in
     (rw told, rw told (x .wrong3 .ensures))
 
+same-length-8 : tie.Need-same-length-8
+same-length-8 c = search needs
+
+returns-10 : tie.Need-returns-10
+unfolding afterPlain plainText
+returns-10 c =
+    let x = c .before .before in
+    let told = rw (x .before .before .before .before .read .ensures) at (x .before .before .enum-told6 .given .1) in
+    (rw told, rw told (x .wrong4 .ensures))
+
 pub plain-spec : {M : Type 1} → statement M
 plain-spec =
     tie.close
@@ -173,6 +189,8 @@ plain-spec =
     wrong-requires-2
     enum-told-5
     wrong-requires-3
+    enum-told-6
+    wrong-requires-4
     returns
     returns-2
     same-length
@@ -188,4 +206,6 @@ plain-spec =
     same-length-6
     returns-8
     same-length-7
-    returns-9)
+    returns-9
+    same-length-8
+    returns-10)

@@ -1,5 +1,6 @@
--- `state::received` meets its contract: the basis of the telegram, the result worked out from it, and least and greatest with it.
+-- `state::received` meets its contract: the basis of the telegram, the result worked out from it, least and greatest with it, and its marks.
 use borrow.Author.Needs.{needs}
+use Rattle.reading.specs.Reading.{markedOf}
 use Rattle.state.specs.State.{receivedOf, rereadOf}
 use Rattle.state.proofs.received.Statement.{statement}
 use Rattle.state.proofs.received.Tie as tie
@@ -14,9 +15,12 @@ widened-requires : tie.Need-widened-requires
 widened-requires c κs = search needs
 
 returns : tie.Need-returns
-unfolding receivedOf rereadOf
-returns c = let b = c .before in
-    rw (c .widened .ensures, b .read .ensures, b .before .basis-of .ensures)
+unfolding receivedOf rereadOf markedOf
+returns c =
+    let x = c .before in
+    let m = x .before .before in
+    let b = m .before .basis-of in
+    (rw (x .widened .ensures, m .read .ensures, b .ensures), rw (m .read .ensures, b .ensures))
 
 pub received-spec : {M : Type 1} → statement M
 received-spec = tie.close (tie.spec basis-of-requires read-requires widened-requires returns)

@@ -1,5 +1,6 @@
--- `state::reread` meets its contract: the reading anew, and the extremes with it.
+-- `state::reread` meets its contract: the reading anew, the extremes with it, and its marks.
 use borrow.Author.Needs.{needs}
+use Rattle.reading.specs.Reading.{markedOf}
 use Rattle.state.specs.State.{rereadOf}
 use Rattle.state.proofs.reread.Statement.{statement}
 use Rattle.state.proofs.reread.Tie as tie
@@ -14,8 +15,11 @@ with-reading-requires : tie.Need-with-reading-requires
 with-reading-requires c κs = search needs
 
 returns : tie.Need-returns
-unfolding rereadOf
-returns c = rw (c .with-reading .ensures, c .before .widened .ensures, c .before .before .read .ensures)
+unfolding rereadOf markedOf
+returns c =
+    let w = c .before in
+    let m = w .before .before .before .read in
+    (rw (w .with-reading .ensures, w .before .widened .ensures, m .ensures), rw (m .ensures))
 
 pub reread-spec : {M : Type 1} → statement M
 reread-spec = tie.close (tie.spec read-requires widened-requires with-reading-requires returns)

@@ -5,7 +5,7 @@ use crate::panel::Event;
 use crate::rng::Rng;
 
 /// Lines that are none whatever runs.
-const WRONG: [&str; 64] = [
+const WRONG: [&str; 69] = [
     "x",
     "Start",
     "START",
@@ -53,6 +53,11 @@ const WRONG: [&str; 64] = [
     "start 1",
     "start start",
     "start\r\r",
+    "Halves",
+    "halve",
+    "halves 1",
+    "halves halves",
+    "halves\t",
     "t",
     "t 123456789",
     "t 0x1",
@@ -121,6 +126,15 @@ pub fn frame(rng: &mut Rng, bytes: &[u8]) -> Vec<String> {
         .collect()
 }
 
+/// The words that ask for the marks, now and then with something behind them.
+pub fn halves(rng: &mut Rng) -> Vec<String> {
+    let mut words = vec!["halves".into()];
+    if rng.chance(4) {
+        words.push(rng.pick(&["0", "1", "0 0 0", "-", "t", "#"]).into());
+    }
+    words
+}
+
 /// A line that is none, or one that says nothing.
 pub fn odd(rng: &mut Rng) -> Vec<u8> {
     match rng.weighted(&[50, 10, 10, 8, 5, 5]) {
@@ -135,7 +149,16 @@ pub fn odd(rng: &mut Rng) -> Vec<u8> {
 
 /// A good line with one byte changed, left out or put in.
 fn torn(rng: &mut Rng) -> Vec<u8> {
-    let good = ["node 1", "slot 12 0", "t 1F", "i 1", "c 10", "f 01 03 00 00 00 02 C4 0B", "start"];
+    let good = [
+        "node 1",
+        "slot 12 0",
+        "t 1F",
+        "i 1",
+        "c 10",
+        "f 01 03 00 00 00 02 C4 0B",
+        "start",
+        "halves",
+    ];
     let mut line: Vec<u8> = rng.pick(&good).into();
     let at = rng.below(line.len() as u64) as usize;
     let byte = rng.pick(b" \t#-+09afAFgxt\r\0");
@@ -152,7 +175,7 @@ fn torn(rng: &mut Rng) -> Vec<u8> {
 /// A line of about 1,024 bytes, or far more: good, blank, a remark or none, with 0 to 2 carriage returns.
 fn around_the_longest(rng: &mut Rng) -> Vec<u8> {
     let mut line: Vec<u8> =
-        rng.pick(&["c 5", "i 1", "", "#", "x", "f", "node 1", "start 1"]).into();
+        rng.pick(&["c 5", "i 1", "", "#", "x", "f", "node 1", "start 1", "halves"]).into();
     let filler = if line == b"#" || line == b"x" { rng.pick(b" x#") } else { b' ' };
     let length = match rng.below(8) {
         0 => rng.between(1_100, 9_000) as usize,

@@ -56,7 +56,7 @@ impl<'a> Writer<'a> {
         self.refused_starts(&draft, theme);
         self.set_node();
         self.set_table(&draft.words);
-        self.put("start");
+        self.start();
         if self.console.panel.is_none() {
             return;
         }
@@ -68,20 +68,25 @@ impl<'a> Writer<'a> {
                 self.odd();
             }
             if self.rng.chance(4) {
-                self.put("start");
+                self.start();
+            }
+            if self.rng.chance(4) {
+                self.start_at_no_node();
+                self.set_node();
             }
         }
     }
 
-    /// Events and frames before the first start.
+    /// Events, frames and questions before the first start.
     pub fn before_a_start(&mut self) {
         for _ in 0..self.rng.between(1, 5) {
-            match self.rng.below(6) {
+            match self.rng.below(7) {
                 0 => self.put("t 5"),
                 1 => self.put("i 8"),
                 2 => self.put("c 100"),
                 3 => self.put("f 01 03 00 00 00 02 C4 0B"),
                 4 => self.put("f"),
+                5 => self.put_halves(),
                 _ => self.odd(),
             }
         }
@@ -100,21 +105,26 @@ impl<'a> Writer<'a> {
     /// Starts that 33 or a load check refuses, the panel before it going on.
     fn refused_starts(&mut self, draft: &Draft, theme: Theme) {
         if self.rng.chance(15) {
-            let node = self.rng.pick(&[0, 248, 249, 255, 256, 257, 503, 65_535]);
-            self.put(&format!("node {node}"));
-            if self.rng.chance(30) {
-                self.put("slot 0 9");
-            }
-            self.put("start");
-            self.some_frames(1);
+            self.start_at_no_node();
         }
         if let Theme::Load(number @ 2..) = theme {
             let mut words = draft.words;
             faults::spoil(self.rng, &mut words, number);
             self.set_table(&words);
-            self.put("start");
+            self.start();
             self.some_frames(2);
         }
+    }
+
+    /// A start that 33 refuses, its table good or not.
+    fn start_at_no_node(&mut self) {
+        let node = self.rng.pick(&[0, 248, 249, 255, 256, 257, 503, 65_535]);
+        self.put(&format!("node {node}"));
+        if self.rng.chance(30) {
+            self.put("slot 0 9");
+        }
+        self.start();
+        self.some_frames(1);
     }
 
     fn set_node(&mut self) {
@@ -151,9 +161,11 @@ impl<'a> Writer<'a> {
             let words = lines::event(self.rng, event);
             let line = lines::spelled(self.rng, &words);
             self.put_bytes(&line);
+            self.ask();
             if self.rng.chance(3) {
                 let levels = self.rng.ends(8, 255);
                 self.put(&format!("i {levels}"));
+                self.ask();
             }
         }
     }
@@ -192,8 +204,27 @@ impl<'a> Writer<'a> {
         self.put_frame(&frame);
     }
 
+    fn start(&mut self) {
+        self.put("start");
+        self.ask();
+    }
+
     fn put_frame(&mut self, frame: &[u8]) {
         let words = lines::frame(self.rng, frame);
+        let line = lines::spelled(self.rng, &words);
+        self.put_bytes(&line);
+        self.ask();
+    }
+
+    /// K7: asks for the marks after a third of the events, frames and starts.
+    fn ask(&mut self) {
+        if self.rng.chance(33) {
+            self.put_halves();
+        }
+    }
+
+    fn put_halves(&mut self) {
+        let words = lines::halves(self.rng);
         let line = lines::spelled(self.rng, &words);
         self.put_bytes(&line);
     }
@@ -226,7 +257,7 @@ fn small(rng: &mut Rng) -> Draft {
     set(rng, 40, slot::OFFSET, 0, 200);
     set(rng, 15, slot::DIRECTION, 1, 1);
     set(rng, 15, slot::ROUND_LOOP, 30, 360);
-    set(rng, 25, slot::FACTOR, 50_000, 200_000);
+    set(rng, 15, slot::FACTOR, 50_000, 200_000);
     set(rng, 20, slot::ADDITIVE, -200, 200);
     set(rng, 25, slot::ANALOG, 1, 2);
     set(rng, 60, slot::preselection(0), -50, 150);
@@ -244,6 +275,7 @@ fn small(rng: &mut Rng) -> Draft {
             _ => rng.pick(&[2, 2, 2, 0, 1, 3]),
         } as i32;
     }
+    set_halves(rng, &mut words);
     let mut reach = 150;
     match rng.below(10) {
         0 | 1 => {
@@ -253,16 +285,44 @@ fn small(rng: &mut Rng) -> Draft {
         2 => {
             words[slot::RESOLUTION] = 32;
             words[slot::HIGH_BIT] = 32;
+            words[slot::FACTOR] = rng.pick(&[50_000, 100_000]);
             reach = 2 * i64::from(Z);
         }
         3 => words[slot::ADDITIVE] = rng.pick(&[-1, 1]) * (Z - rng.between(0, 99) as i32),
         _ => {}
     }
-    if rng.chance(25) {
+    if rng.chance(30) {
         words[slot::LINEARIZATION] = rng.between(1, 2) as i32;
-        words[slot::x(1)] = rng.between(1, 200) as i32;
-        words[slot::y(1)] = rng.between(-300, 300) as i32;
+        let (x, y) = second_point(rng);
+        words[slot::x(1)] = x as i32;
+        words[slot::y(1)] = y as i32;
     }
     let anchors = (0..3).map(|_| rng.between(0, reach)).collect();
     Draft { words, anchors }
+}
+
+/// K7: at times a factor and an analog span that give a half at every other distance and result.
+fn set_halves(rng: &mut Rng, words: &mut [i32; SLOTS]) {
+    if rng.chance(35) {
+        words[slot::FACTOR] = rng.pick(&[50_000, 150_000, 250_000]);
+    }
+    if rng.chance(35) {
+        // Twice a divisor of 32,767 or of 65,535.
+        let span = match words[slot::ANALOG] {
+            0 => rng.pick(&[2, 14, 62, 302, 434]),
+            _ => rng.pick(&[2, 6, 10, 34, 170, 510]),
+        };
+        let start = rng.between(-20, 120) as i32;
+        words[slot::ANALOG_START] = start;
+        words[slot::ANALOG_END] = start + span * rng.pick(&[-1, 1]);
+    }
+}
+
+/// The end of a line from (0, 0): anywhere, or so that every odd v gives a half.
+fn second_point(rng: &mut Rng) -> (i64, i64) {
+    if rng.chance(50) {
+        return (rng.between(1, 200), rng.between(-300, 300));
+    }
+    let half = rng.between(1, 100);
+    (2 * half, half * rng.pick(&[-3, -1, 1, 3]))
 }

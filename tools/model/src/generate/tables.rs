@@ -208,7 +208,7 @@ fn scaled(table: &Table, anchor: i64) -> i64 {
         0 => anchor,
         round => anchor.rem_euclid(round),
     };
-    measure::scaled(table, d)
+    measure::scaled(table, d).value
 }
 
 /// Strictly rising numbers from low to high, often the ends and often close together.
@@ -252,7 +252,7 @@ fn heights(rng: &mut Rng, x: &[i64]) -> Vec<i64> {
 /// The results at the anchors, 0 under an error.
 fn results(words: &[i32; SLOTS], anchors: &[i64]) -> Vec<i64> {
     let table = Table::from_words(words);
-    let value = |&anchor: &i64| measure::linearized(&table, scaled(&table, anchor));
+    let value = |&anchor: &i64| measure::linearized(&table, scaled(&table, anchor)).value;
     anchors.iter().map(value).map(|value| value.clamp(-LIMIT, LIMIT)).collect()
 }
 

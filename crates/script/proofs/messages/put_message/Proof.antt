@@ -72,6 +72,12 @@ slice-aggregate-put-bytes-10 c = search needs
 put-bytes-requires-10 : tie.Need-put-bytes-requires-10
 put-bytes-requires-10 c κs = search needs
 
+slice-aggregate-put-bytes-11 : tie.Need-slice-aggregate-put-bytes-11
+slice-aggregate-put-bytes-11 c = search needs
+
+put-bytes-requires-11 : tie.Need-put-bytes-requires-11
+put-bytes-requires-11 c κs = search needs
+
 same-length : tie.Need-same-length
 same-length c = search needs
 
@@ -139,11 +145,18 @@ same-length-10 : tie.Need-same-length-10
 same-length-10 c = search needs
 
 returns-10 : tie.Need-returns-10
-returns-10 c =
+unfolding messageOf
+returns-10 c = rw (c .before .before .before .before .before .match .keys10) (c .before .before .put-bytes10 .ensures)
+
+same-length-11 : tie.Need-same-length-11
+same-length-11 c = search needs
+
+returns-11 : tie.Need-returns-11
+returns-11 c =
     let r = c .before .before .before .before .before .match .rest in
     let k = c .before .before .before .before .before .before .before .args .kind in
-    rw (other-message k (λ h. above 9 k (above 8 k (above 7 k (above 6 k (above 5 k (above 4 k (above 3 k (above 2 k (above 1 k h (r .0 .0 .0 .0 .0 .0 .0 .0 .1)) (r .0 .0 .0 .0 .0 .0 .0 .1)) (r .0 .0 .0 .0 .0 .0 .1)) (r .0 .0 .0 .0 .0 .1)) (r .0 .0 .0 .0 .1)) (r .0 .0 .0 .1)) (r .0 .0 .1)) (r .0 .1)) (r .1)))
-    (c .before .before .put-bytes10 .ensures)
+    rw (other-message k (λ h. above 10 k (above 9 k (above 8 k (above 7 k (above 6 k (above 5 k (above 4 k (above 3 k (above 2 k (above 1 k h (r .0 .0 .0 .0 .0 .0 .0 .0 .0 .1)) (r .0 .0 .0 .0 .0 .0 .0 .0 .1)) (r .0 .0 .0 .0 .0 .0 .0 .1)) (r .0 .0 .0 .0 .0 .0 .1)) (r .0 .0 .0 .0 .0 .1)) (r .0 .0 .0 .0 .1)) (r .0 .0 .0 .1)) (r .0 .0 .1)) (r .0 .1)) (r .1)))
+    (c .before .before .put-bytes11 .ensures)
 
 pub put-message-spec : {M : Type 1} → statement M
 put-message-spec =
@@ -169,6 +182,8 @@ put-message-spec =
     put-bytes-requires-9
     slice-aggregate-put-bytes-10
     put-bytes-requires-10
+    slice-aggregate-put-bytes-11
+    put-bytes-requires-11
     same-length
     returns
     same-length-2
@@ -188,4 +203,6 @@ put-message-spec =
     same-length-9
     returns-9
     same-length-10
-    returns-10)
+    returns-10
+    same-length-11
+    returns-11)
