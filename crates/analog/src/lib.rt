@@ -91,7 +91,8 @@ pub fn code(format: u32, start: i32, end: i32, r: i32) -> Coded
 {
     let z = rounded(format, start, end, r);
     let code = hold(lowest_code(format), full_scale(format), z.value) as i32;
-    Coded { code, half: z.half }
+    let half = z.half;
+    Coded { code, half }
 }
 
 // code * 10 / 32768 volts.

@@ -103,13 +103,8 @@ fn part(t: &[i32; 104], o: Outcome) -> u64 {
     let switches = l.switches;
     let values = raised(reading.result) + 3 * raised(l.shown);
     let rest = 7 * outs_part(panel::outputs(t, switches)) + 11 * drive_part(drive);
-    let h = o.halves;
-    let marks = bit(h.scaling) + 2 * bit(h.linearization) + 4 * bit(h.analog);
-    values
-        + rest
-        + 5 * (measurement::error_number(error) as u64)
-        + 13 * (o.note as u64)
-        + 17 * marks
+    let told = 13 * (o.note as u64) + 17 * (o.halves as u64);
+    values + rest + 5 * (measurement::error_number(error) as u64) + told
 }
 
 // The live values and the sum so far.

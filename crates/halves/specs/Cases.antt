@@ -15,7 +15,6 @@ use Rattle.measurement.specs.Measure as measure
 use Rattle.panel.specs.declared.Answer.{Answer}
 use Rattle.panel.specs.Step as step
 use Rattle.parameters.specs.Rows as row
-use Rattle.reading.specs.declared.Halves.{Halves}
 use Rattle.reading.specs.Reading as reading
 use Rattle.reading.specs.Reading.{halves}
 use Rattle.settings.specs.Settings as settings
@@ -46,7 +45,7 @@ pub record Shown : Type 0 where
 
 pub record Both : Type 0 where
   pub ours : Shown
-  pub marks : Halves
+  pub marks : ℕ
   pub theirs : Shown
 
 abbrev shown : ℕ → ℤ → ℤ → Shown
@@ -55,7 +54,7 @@ shown e r z = record { error = e; result = r; code = z }
 abbrev answer : List ℤ → ℕ → Answer
 answer t w = step.stepOf (state.freshOf t) (Telegram w)
 
-abbrev both : Shown → Halves → Shown → Both
+abbrev both : Shown → ℕ → Shown → Both
 both o h u = record { ours = o; marks = h; theirs = u }
 
 -- their code is that of our result

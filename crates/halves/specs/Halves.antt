@@ -11,7 +11,7 @@ use Rattle.measurement.specs.declared.Error.the-variants as Error
 use Rattle.measurement.specs.Measure.{measured}
 use Rattle.panel.specs.declared.Answer.{Answer}
 use Rattle.panel.specs.Step.{stepOf}
-use Rattle.reading.specs.Reading.{acceptsOf, basisOf}
+use Rattle.reading.specs.Reading.{acceptsOf, basisOf, inScaling, inLinearization, inAnalog}
 use Rattle.settings.specs.Settings.{spanOf}
 use Rattle.state.specs.declared.State.{State}
 use Rattle.halves.specs.Upward.{measuredUp, codeUp}
@@ -19,10 +19,10 @@ use Rattle.halves.specs.Upward.{measuredUp, codeUp}
 -- an answer to a telegram under a state's table, and what the other firmware has for it
 pub record NotTheRounding (s : State) (w : ℕ) (a : Answer) : Type 0 where
   -- neither mark of the digits: the same result, and no error
-  pub result : a .error ≡ Error.None → a .halves .scaling ≡ false → a .halves .linearization ≡ false →
+  pub result : a .error ≡ Error.None → inScaling (a .halves) ≡ false → inLinearization (a .halves) ≡ false →
       measuredUp (s .table) (basisOf (s .table) w) ≡ measured (a .result) Error.None
   -- no analog mark: the same code of that result
-  pub code : a .error ≡ Error.None → a .halves .analog ≡ false → codeUp (spanOf (s .table)) (a .result) ≡ a .state .live .reading .code
+  pub code : a .error ≡ Error.None → inAnalog (a .halves) ≡ false → codeUp (spanOf (s .table)) (a .result) ≡ a .state .live .reading .code
 
 -- of every state, and so of every table that loads and of whatever came before; a telegram that is accepted
 abbrev pub HalvesTold : Type 0

@@ -1,7 +1,7 @@
 -- The law of marks, proved: a reading without error and without the two marks is the other firmware's, by the law of halves of one rounding, twice; and so its code.
 -- Request K7. Assumes nothing.
 use mathlib.Core.Path.{_≡_, refl, sym, ap, _∙_}
-use mathlib.Core.Bool.{false}
+use mathlib.Core.Bool.{Bool, true, false}
 use mathlib.Core.List.{List}
 use Prim.Native.Nat.{ℕ, zero, suc}
 use native.Mathlib.Nat.{mod-eq-of-lt}
@@ -17,6 +17,7 @@ use Rattle.integers.specs.HalfLaws.{multiple-no-half}
 use Rattle.integers.specs.UpwardLaws.{up-same}
 use Rattle.measurement.specs.declared.Error.{Error}
 use Rattle.measurement.specs.declared.Error.the-variants as Error
+use Rattle.measurement.specs.declared.Measurement.{Measurement}
 use Rattle.measurement.specs.declared.Scaling.{Scaling}
 use Rattle.measurement.specs.Curve.{curve, linearizedOf, linearizedBy}
 use Rattle.measurement.specs.Measure.{errorNumber, measured, distanceOf, distanceAt, scaledOf, scaledBy, scaledAt, judgedOf, usedPoints, valueOf, measuredOf, scalingHalf, lineHalf, measurementOf}
@@ -25,8 +26,7 @@ use Rattle.parameters.specs.Slots.{withOffset}
 use Rattle.parameters.specs.StoreLaws.{offset-stored}
 use Rattle.panel.specs.Step.{answerOf, onTelegram, stepOf, switchedOf, displayedOf}
 use Rattle.reading.specs.declared.Basis.{Basis}
-use Rattle.reading.specs.declared.Halves.{Halves}
-use Rattle.reading.specs.Reading.{acceptsOf, basisOf, measuredAt, measurementAt, codeAt, codedAt, readingOf, marksOf, halvesOf}
+use Rattle.reading.specs.Reading.{acceptsOf, basisOf, measuredAt, measurementAt, codeAt, codedAt, readingOf, halves, inScaling, inLinearization, inAnalog, marksOf, halvesOf}
 use Rattle.settings.specs.declared.Span.{Span}
 use Rattle.settings.specs.Settings.{scalingOf, pointsOf, spanOf}
 use Rattle.state.specs.declared.State.{State}
@@ -55,13 +55,24 @@ code-same a r e =
 
 -- ---- a reading: without error its marks are those of the roundings
 
-marks-are : (t : List ℤ) (b : Basis) → measuredAt t b .error ≡ Error.None →
-    (halvesOf t b .scaling ≡ scalingHalf (scalingOf t) (b .directed)) × ((halvesOf t b .linearization ≡ lineHalf (scalingOf t) (pointsOf t) (b .directed)) ×
-    (halvesOf t b .analog ≡ codeHalf (spanOf t .format) (spanOf t .start) (spanOf t .end) (measuredAt t b .result)))
-unfolding halvesOf marksOf measurementAt measurementOf measuredAt codedAt codedOf
-marks-are t b e = rw e (refl, (refl, refl))
+-- each mark is found again in the number
+read-back : (s l a : Bool) → (inScaling (halves s l a) ≡ s) × ((inLinearization (halves s l a) ≡ l) × (inAnalog (halves s l a) ≡ a))
+read-back true true true = (refl, (refl, refl))
+read-back true true false = (refl, (refl, refl))
+read-back true false true = (refl, (refl, refl))
+read-back true false false = (refl, (refl, refl))
+read-back false true true = (refl, (refl, refl))
+read-back false true false = (refl, (refl, refl))
+read-back false false true = (refl, (refl, refl))
+read-back false false false = (refl, (refl, refl))
 
-measured-same : (t : List ℤ) (b : Basis) → measuredAt t b .error ≡ Error.None → halvesOf t b .scaling ≡ false → halvesOf t b .linearization ≡ false →
+marks-are : (t : List ℤ) (b : Basis) → measuredAt t b .error ≡ Error.None →
+    (inScaling (halvesOf t b) ≡ scalingHalf (scalingOf t) (b .directed)) × ((inLinearization (halvesOf t b) ≡ lineHalf (scalingOf t) (pointsOf t) (b .directed)) ×
+    (inAnalog (halvesOf t b) ≡ codeHalf (spanOf t .format) (spanOf t .start) (spanOf t .end) (measuredAt t b .result)))
+unfolding halvesOf marksOf measurementAt measurementOf measuredAt codedAt codedOf
+marks-are t b e = rw e (read-back (scalingHalf (scalingOf t) (b .directed)) (lineHalf (scalingOf t) (pointsOf t) (b .directed)) _)
+
+measured-same : (t : List ℤ) (b : Basis) → measuredAt t b .error ≡ Error.None → inScaling (halvesOf t b) ≡ false → inLinearization (halvesOf t b) ≡ false →
     measuredUp t b ≡ measuredAt t b
 unfolding measuredUp measuredAt measuredOf
 measured-same t b e x y =
@@ -95,10 +106,14 @@ unfolding scalingHalf scaledBy
 unscaled s p e =
     rw (e, zero-distance p (s .«round_loop»), zero-*ℤ (pos (s .factor)), ← zero-*ℤ (pos (s .divider))) (multiple-no-half (pos 0) (pos (s .divider)))
 
-pub reset-unscaled : (s : State) → Good s → halvesIn (resetOf s) .scaling ≡ false
-unfolding resetOf rereadOf halvesOf marksOf measurementAt measurementOf measuredAt scalingOf
+marks-unscaled : (x : Measurement) (analog : Bool) → x .scaling ≡ false → inScaling (marksOf x analog) ≡ false
+unfolding marksOf
+marks-unscaled x analog e =
+    by-test (eqb (errorNumber (x .measured .error)) 0) _ _ (λ (h : ℕ). inScaling h ≡ false) (λ _. read-back (x .scaling) (x .linearization) analog .0 ∙ e) (λ _. refl)
+
+pub reset-unscaled : (s : State) → Good s → inScaling (halvesIn (resetOf s)) ≡ false
+unfolding resetOf rereadOf halvesOf measurementAt measurementOf scalingOf
 reset-unscaled s g =
     let p = s .live .basis .directed in
     let t = withOffset (s .table) (pos p) in
-    by-test (eqb (errorNumber (measuredAt t (s .live .basis) .error)) 0) _ _ (λ (h : Halves). h .scaling ≡ false)
-    (λ _. unscaled (scalingOf t) p (offset-stored (pos p) (g .table))) (λ _. refl)
+    marks-unscaled (measurementAt t (s .live .basis)) _ (unscaled (scalingOf t) p (offset-stored (pos p) (g .table)))

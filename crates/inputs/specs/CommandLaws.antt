@@ -17,7 +17,6 @@ use Rattle.settings.specs.declared.Action.{Action}
 use Rattle.settings.specs.declared.Action.the-variants.{None, Reset, Freeze, ClearLocks, ClearExtremes, Teach}
 use Rattle.settings.specs.InputLaws.{aimed}
 use Rattle.settings.specs.Settings.{isReset, isTeach, Aimed, inputAt}
-use Rattle.reading.specs.declared.Halves.{Halves}
 use Rattle.reading.specs.Reading.{noHalves}
 use Rattle.state.specs.declared.State.{State}
 use Rattle.state.specs.State.{withTable, errorOf, halvesIn}
@@ -77,7 +76,7 @@ by-input l i x Q acts rests = by-test (edgeAt (x .state) l i) _ x (λ (y : Acted
 -- ---- the marks
 
 -- a refused command keeps them
-pub refused-keeps : (a : Action) (s : State) (h : Halves) → eqb (refusalOf a s) 0 ≡ false → marksAfter a s h ≡ h
+pub refused-keeps : (a : Action) (s : State) (h : ℕ) → eqb (refusalOf a s) 0 ≡ false → marksAfter a s h ≡ h
 unfolding marksAfter
 refused-keeps a s h e = rw e (go (isReset a))
   where
@@ -115,7 +114,7 @@ unfolding inputsOf commandsOf
 all-inputs s l = refl
 
 -- K7: the marks after them
-unfoldable pub marksUpTo : ℕ → ℕ → Acted → Halves
+unfoldable pub marksUpTo : ℕ → ℕ → Acted → ℕ
 marksUpTo l zero x = noHalves
 marksUpTo l (suc n) x = marksAt l n (inputsOf l n x) (marksUpTo l n x)
 

@@ -10,7 +10,6 @@ use Rattle.parameters.specs.Slots.{withOffset, withPreselection}
 use Rattle.settings.specs.declared.Action.{Action}
 use Rattle.settings.specs.declared.Action.the-variants.{None, Reset, Freeze, ClearLocks, ClearExtremes, Teach}
 use Rattle.settings.specs.Settings.{isReset}
-use Rattle.reading.specs.declared.Halves.{Halves}
 use Rattle.switching.specs.Switching.{allUnlocked}
 use Rattle.state.specs.declared.Extremes.{Extremes}
 use Rattle.state.specs.declared.Live.{Live}
@@ -83,7 +82,7 @@ carriedOut ClearExtremes s = clearExtremesOf s
 carriedOut (Teach k) s = teachOf s k
 
 -- K7, "a reset carried out" brings the marks of its result; any other command leaves them
-unfoldable pub marksAfter : Action → State → Halves → Halves
+unfoldable pub marksAfter : Action → State → ℕ → ℕ
 marksAfter a s h = cond (isReset a && eqb (refusalOf a s) 0) (halvesIn (resetOf s)) h
 
 -- a refused command changes nothing

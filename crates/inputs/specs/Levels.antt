@@ -8,7 +8,6 @@ use lib.IntN.{ℤ}
 use Rattle.settings.specs.declared.Config.{Config}
 use Rattle.settings.specs.declared.Config.the-variants.{Low, High, Rising, Falling}
 use Rattle.settings.specs.Settings.{inputAt}
-use Rattle.reading.specs.declared.Halves.{Halves}
 use Rattle.reading.specs.Reading.{noHalves}
 use Rattle.state.specs.declared.State.{State}
 use Rattle.inputs.specs.Commands.{Acted, acted, marksAfter, commandOf}
@@ -48,7 +47,7 @@ unfoldable pub inputOf : ℕ → ℕ → Acted → Acted
 inputOf l i x = cond (edgeAt (x .state) l i) (inputActs i x) x
 
 -- K7: the marks after input i + 1, from those before it
-unfoldable pub marksAt : ℕ → ℕ → Acted → Halves → Halves
+unfoldable pub marksAt : ℕ → ℕ → Acted → ℕ → ℕ
 marksAt l i x h = cond (edgeAt (x .state) l i) (marksAfter (inputAt (x .state .table) i .action) (x .state) h) h
 
 -- "the actions of inputs 1, 2, 3 in that order"
@@ -56,5 +55,5 @@ unfoldable pub commandsOf : State → ℕ → Acted
 commandsOf s l = inputOf l 2 (inputOf l 1 (inputOf l 0 (acted s 0)))
 
 -- K7: the marks of the last reset carried out, none where there is none
-unfoldable pub marksOf : State → ℕ → Halves
+unfoldable pub marksOf : State → ℕ → ℕ
 marksOf s l = marksAt l 2 (inputOf l 1 (inputOf l 0 (acted s 0))) (marksAt l 1 (inputOf l 0 (acted s 0)) (marksAt l 0 (acted s 0) noHalves))

@@ -1,11 +1,11 @@
 // The three inputs: their commands on a panel's state, each on what the earlier ones left, where a refused one changes nothing; and the freeze.
-// The table is changed in place. Uses `settings` for what the inputs do, `parameters` to store, `state` for the state, and `switching` for the locks.
+// The table is changed in place. Uses `settings` for what the inputs do, `parameters` to store, `reading` for the result of a reset, `state` for the state, and
+// `switching` for the locks.
 use settings::Action;
 use settings::Config;
 use state::Extremes;
 use state::Live;
 use state::Outcome;
-use state::Worked;
 ghost use mathlib.Core.Path.{_≡_};
 ghost use Prim.Native.Nat.{_<_, _≤_};
 ghost use Rattle.integers.specs.Limit.{Z};
@@ -13,7 +13,7 @@ ghost use Rattle.parameters.specs.Valid.{Valid};
 ghost use Rattle.settings.specs.Settings.{Aimed, inputAt};
 ghost use Rattle.state.specs.State.{stateOf, halvesIn};
 ghost use Rattle.state.specs.Valid.{Good};
-ghost use Rattle.inputs.specs.Commands.{leftBy, resetRefusal, resetOf, locksCleared, extremesAt, extremesCleared, teachRefusal, teachOf, refusalOf, carriedOut, marksAfter, commandOf};
+ghost use Rattle.inputs.specs.Commands.{acted, leftBy, resetRefusal, resetOf, locksCleared, extremesAt, extremesCleared, teachRefusal, teachOf, refusalOf, carriedOut, marksAfter, commandOf};
 ghost use Rattle.inputs.specs.Levels.{highAt, onRise, actsOn, edgeIn, firstNote, inputActs, commandsOf, marksOf};
 ghost use Rattle.inputs.specs.Freeze.{lasts, freezes, frozen};
 
@@ -41,14 +41,21 @@ fn teach_refusal(seen: bool, error: u32) -> u8
 }
 
 // Reset: the offset becomes the position after direction.
-fn reset(t: &mut [i32; 104], l: Live) -> Worked
+fn reset(t: &mut [i32; 104], l: Live) -> Outcome
     requires { ⌜ Valid (now t) × (l .basis .directed ≤ Z) ⌝ }
-    ensures is { λ r. ⌜ stateOf (now (t .exit)) (r .live) ≡ resetOf (stateOf (now (t .entry)) l) ⌝ }
+    ensures is { λ r. ⌜ leftBy (now (t .exit)) r ≡ acted (resetOf (stateOf (now (t .entry)) l)) 0 ⌝ }
     ensures marks { λ r. ⌜ r .halves ≡ halvesIn (resetOf (stateOf (now (t .entry)) l)) ⌝ }
 {
     let b = l.basis;
     parameters::store_offset(t, b.directed as i32);
-    state::reread(t, l)
+    let m = reading::read(t, b);
+    let r = m.reading;
+    let live = state::reread(l, r);
+    Outcome {
+        live,
+        note: 0,
+        halves: m.halves,
+    }
 }
 
 // Clear locks.
@@ -112,55 +119,40 @@ fn refusal(a: Action, t: &[i32; 104], l: Live) -> u8
     }
 }
 
-// Other live values, with the marks as they were.
-fn unmarked(live: Live, w: Worked) -> Worked
-    ensures { λ r. ⌜ r ≡ record { live = live; halves = w .halves } ⌝ }
+// An outcome for which no result was worked out: the marks stay as they were.
+fn marked(live: Live, note: u8, halves: u8) -> Outcome
+    ensures { λ r. ⌜ r ≡ record { live = live; note = note; halves = halves } ⌝ }
 {
-    let halves = w.halves;
-    Worked { live, halves }
+    Outcome { live, note, halves }
 }
 
 // An action that is not refused, carried out; a reset alone brings marks.
-fn carry_out(a: Action, t: &mut [i32; 104], w: Worked) -> Worked
-    requires { ⌜ Valid (now t) × (Aimed a × (refusalOf a (stateOf (now t) (w .live)) ≡ 0)) ⌝ }
-    ensures is { λ r. ⌜ stateOf (now (t .exit)) (r .live) ≡ carriedOut a (stateOf (now (t .entry)) (w .live)) ⌝ }
-    ensures marks { λ r. ⌜ r .halves ≡ marksAfter a (stateOf (now (t .entry)) (w .live)) (w .halves) ⌝ }
+fn carry_out(a: Action, t: &mut [i32; 104], l: Live, halves: u8) -> Outcome
+    requires { ⌜ Valid (now t) × (Aimed a × (refusalOf a (stateOf (now t) l) ≡ 0)) ⌝ }
+    ensures is { λ r. ⌜ leftBy (now (t .exit)) r ≡ acted (carriedOut a (stateOf (now (t .entry)) l)) 0 ⌝ }
+    ensures marks { λ r. ⌜ r .halves ≡ marksAfter a (stateOf (now (t .entry)) l) halves ⌝ }
 {
-    let l = w.live;
     match a {
-        Action::None => w,
+        Action::None => marked(l, 0, halves),
         Action::Reset => reset(t, l),
-        Action::Freeze => w,
-        Action::ClearLocks => unmarked(clear_locks(l), w),
-        Action::ClearExtremes => unmarked(clear_extremes(l), w),
-        Action::Teach(k) => unmarked(teach(t, l, k), w),
+        Action::Freeze => marked(l, 0, halves),
+        Action::ClearLocks => marked(clear_locks(l), 0, halves),
+        Action::ClearExtremes => marked(clear_extremes(l), 0, halves),
+        Action::Teach(k) => marked(teach(t, l, k), 0, halves),
     }
 }
 
 // A command: carried out, or refused with its number.
-fn command(a: Action, t: &mut [i32; 104], w: Worked) -> Outcome
+fn command(a: Action, t: &mut [i32; 104], l: Live, halves: u8) -> Outcome
     requires { ⌜ Valid (now t) × Aimed a ⌝ }
-    ensures is { λ r. ⌜ leftBy (now (t .exit)) r ≡ commandOf a (stateOf (now (t .entry)) (w .live)) ⌝ }
-    ensures marks { λ r. ⌜ r .halves ≡ marksAfter a (stateOf (now (t .entry)) (w .live)) (w .halves) ⌝ }
+    ensures is { λ r. ⌜ leftBy (now (t .exit)) r ≡ commandOf a (stateOf (now (t .entry)) l) ⌝ }
+    ensures marks { λ r. ⌜ r .halves ≡ marksAfter a (stateOf (now (t .entry)) l) halves ⌝ }
 {
-    let l = w.live;
     let note = refusal(a, t, l);
     if note != 0 {
-        let halves = w.halves;
-        return Outcome {
-            live: l,
-            note,
-            halves,
-        };
+        return marked(l, note, halves);
     }
-    let next = carry_out(a, t, w);
-    let live = next.live;
-    let halves = next.halves;
-    Outcome {
-        live,
-        note: 0,
-        halves,
-    }
+    carry_out(a, t, l, halves)
 }
 
 // Whether input i + 1 is high.
@@ -221,18 +213,16 @@ fn input(t: &mut [i32; 104], x: Outcome, i: usize) -> Outcome
     ensures is { λ r. ⌜ leftBy (now (t .exit)) r ≡ inputActs i (leftBy (now (t .entry)) x) ⌝ }
     ensures marks { λ r. ⌜ r .halves ≡ marksAfter (inputAt (now (t .entry)) i .action) (stateOf (now (t .entry)) (x .live)) (x .halves) ⌝ }
 {
-    let was = x.live;
-    let marks = x.halves;
-    let w = Worked {
-        live: was,
-        halves: marks,
-    };
+    let l = x.live;
     let a = settings::action_at(t, i);
-    let y = command(a, t, w);
+    let y = command(a, t, l, x.halves);
     let note = first_note(x.note, y.note);
-    let live = y.live;
-    let halves = y.halves;
-    Outcome { live, note, halves }
+    let next = y.live;
+    Outcome {
+        live: next,
+        note: note,
+        halves: y.halves,
+    }
 }
 
 // The commands of inputs 1, 2, 3 in that order, of those that new levels make act.
@@ -241,11 +231,10 @@ pub fn act(t: &mut [i32; 104], l: Live, levels: u8) -> Outcome
     ensures is { λ r. ⌜ leftBy (now (t .exit)) r ≡ commandsOf (stateOf (now (t .entry)) l) levels ⌝ }
     ensures marks { λ r. ⌜ r .halves ≡ marksOf (stateOf (now (t .entry)) l) levels ⌝ }
 {
-    let halves = reading::no_halves();
     let mut x = Outcome {
         live: l,
         note: 0,
-        halves,
+        halves: 0,
     };
     let mut i: usize = 0;
     while i < 3 {

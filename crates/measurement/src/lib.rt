@@ -219,10 +219,8 @@ fn one_quadrant(points: &[i32], n: usize, v: i64) -> Rounded
     if v < 0 {
         let mirrored = four_quadrants(points, n, 0 - v);
         let value = 0 - mirrored.value;
-        return Rounded {
-            value,
-            half: mirrored.half,
-        };
+        let half = mirrored.half;
+        return Rounded { value, half };
     }
     four_quadrants(points, n, v)
 }

@@ -12,7 +12,6 @@ use Rattle.inputs.specs.Levels.{commandsOf, marksOf}
 use Rattle.inputs.specs.Freeze.{frozen}
 use Rattle.events.specs.declared.Event.{Event}
 use Rattle.events.specs.declared.Event.the-variants.{Telegram, Levels, Tick}
-use Rattle.reading.specs.declared.Halves.{Halves}
 use Rattle.reading.specs.Reading.{acceptsOf, noHalves}
 use Rattle.settings.specs.Settings.{preselectionsOf}
 use Rattle.switching.specs.declared.Switch.{Switch}
@@ -27,7 +26,7 @@ abbrev pub outputsIn : List ℤ → List Switch → List Bool
 outputsIn t ss = outputsOf (preselectionsOf t) ss
 
 -- "carries the new state, the result, the shown value, error, output levels, drive and a note"; K7, "the event's answer gives the three marks"
-unfoldable pub answerOf : State → ℕ → Halves → Answer
+unfoldable pub answerOf : State → ℕ → ℕ → Answer
 answerOf s note halves =
     record {
       state = s;

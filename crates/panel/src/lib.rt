@@ -1,10 +1,9 @@
 // The front door: load, step and advance, the outputs, and a telegram diagnosed and built. Whoever drives a panel calls this crate.
-// Uses `events`, `state`, `inputs` for the commands and the freeze, `reading` for what is accepted, `settings`, `switching` and `ssi`, and the error and drive enums of
+// Uses `events`, `state`, `inputs` for the commands and the freeze, `reading` for what is accepted and read, `settings`, `switching` and `ssi`, and the error and drive enums of
 // `measurement` and `analog`.
 use analog::Drive;
 use events::Event;
 use measurement::Error;
-use reading::Halves;
 use ssi::Built;
 use ssi::Diagnosis;
 use state::Live;
@@ -37,8 +36,8 @@ pub struct Answer {
     pub drive: Drive,
     // The refusal of the event or of its lowest refused input, 0 for none.
     pub note: u8,
-    // Where a half decided in the result that the event worked out; none where it worked out none.
-    pub halves: Halves,
+    // Where a half decided in the result that the event worked out: 1 for scaling, 2 for linearization, 4 for the analog code, added.
+    pub halves: u8,
 }
 
 // The levels of the outputs that a table and its switches give.
@@ -49,7 +48,7 @@ pub fn outputs(t: &[i32; 104], switches: [Switch; 4]) -> [bool; 4]
 }
 
 // The answer that a state gives, with a note and marks.
-pub fn answered(s: State, note: u8, halves: Halves) -> Answer
+pub fn answered(s: State, note: u8, halves: u8) -> Answer
     ensures { λ r. ⌜ r ≡ answerOf s note halves ⌝ }
 {
     let l = s.live;
@@ -94,7 +93,7 @@ fn shown_after(t: &[i32; 104], levels: u8, shown: i32, result: i32) -> i32
 struct Begun {
     live: Live,
     note: u8,
-    halves: Halves,
+    halves: u8,
     // Whether switching and display follow: not after a refusal or a tick.
     settles: bool,
 }
@@ -103,11 +102,10 @@ struct Begun {
 fn refused(l: Live, note: u8) -> Begun
     ensures { λ r. ⌜ r ≡ record { live = l; note = note; halves = noHalves; settles = false } ⌝ }
 {
-    let halves = reading::no_halves();
     Begun {
         live: l,
         note,
-        halves,
+        halves: 0,
         settles: false,
     }
 }
@@ -120,13 +118,14 @@ fn on_telegram(t: &[i32; 104], l: Live, telegram: u32) -> Begun
     if !reading::accepts(t, telegram) {
         return refused(l, 11);
     }
-    let next = state::received(t, l, telegram);
-    let live = next.live;
-    let halves = next.halves;
+    let b = reading::basis_of(t, telegram);
+    let m = reading::read(t, b);
+    let r = m.reading;
+    let next = state::received(l, b, r);
     Begun {
-        live,
+        live: next,
         note: 0,
-        halves,
+        halves: m.halves,
         settles: true,
     }
 }
@@ -142,11 +141,10 @@ fn on_levels(t: &mut [i32; 104], l: Live, levels: u8) -> Begun
     let x = inputs::act(t, l, levels);
     let n = x.live;
     let next = state::with_levels(n, levels);
-    let halves = x.halves;
     Begun {
         live: next,
         note: x.note,
-        halves,
+        halves: x.halves,
         settles: true,
     }
 }
@@ -158,11 +156,10 @@ fn on_tick(l: Live, ms: u16) -> Begun
     let switches = l.switches;
     let next = state::with_switches(l, switching::tick_all(ms, switches));
     let settles = false;
-    let halves = reading::no_halves();
     Begun {
         live: next,
         note: 0,
-        halves,
+        halves: 0,
         settles,
     }
 }
@@ -198,19 +195,18 @@ pub fn advance(t: &mut [i32; 104], l: Live, e: Event) -> Outcome
 {
     let b = begin(t, l, e);
     let live = b.live;
-    let halves = b.halves;
     if b.settles {
         let last = settle(t, live);
         return Outcome {
             live: last,
             note: b.note,
-            halves,
+            halves: b.halves,
         };
     }
     Outcome {
         live: live,
         note: b.note,
-        halves,
+        halves: b.halves,
     }
 }
 
@@ -224,8 +220,7 @@ pub fn step(s: State, e: Event) -> Answer
     let l = s.live;
     let x = advance(&mut table, l, e);
     let live = x.live;
-    let halves = x.halves;
-    answered(State { table, live }, x.note, halves)
+    answered(State { table, live }, x.note, x.halves)
 }
 
 // What loading a table answers.

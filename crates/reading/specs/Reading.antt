@@ -1,9 +1,9 @@
 -- One reading under a table: a telegram gives the position after direction and whether its error bit reports; these become a result or an error, and the result drives
 -- the analog line.
 -- Paper 01, "From telegram to result" and "Analog value", held together; paper 02, K7, the marks beside a reading. Assumes nothing.
-use mathlib.Core.Bool.{Bool, false, cond}
+use mathlib.Core.Bool.{Bool, cond}
 use mathlib.Core.List.{List}
-use Prim.Native.Nat.{ℕ}
+use Prim.Native.Nat.{ℕ, _+_, _/_, _%_}
 use lib.Dec.{eqb}
 use lib.IntN.{ℤ}
 use Rattle.analog.specs.declared.Drive.{Drive}
@@ -22,7 +22,6 @@ use Rattle.settings.specs.Settings.{layoutOf, scalingOf, pointsOf, spanOf}
 use Rattle.ssi.specs.Telegram.{accepted, errorReported, positionOf, widthOf}
 use Rattle.reading.specs.declared.Basis.{Basis}
 use Rattle.reading.specs.declared.Reading.{Reading}
-use Rattle.reading.specs.declared.Halves.{Halves}
 use Rattle.reading.specs.declared.Marked.{Marked}
 
 -- Where each check sits, 11: accepted unless a bit above N is set
@@ -67,17 +66,31 @@ readingOf t b =
 
 -- ---- K7, where a half decided
 
-abbrev pub halves : Bool → Bool → Bool → Halves
-halves scaling linearization analog = record { scaling = scaling; linearization = linearization; analog = analog }
+-- the three marks as one number: 1 for scaling, 2 for linearization, 4 for the analog value
+abbrev pub mark : Bool → ℕ → ℕ
+mark half worth = cond half worth 0
 
-abbrev pub noHalves : Halves
-noHalves = halves false false false
+abbrev pub halves : Bool → Bool → Bool → ℕ
+halves scaling linearization analog = mark scaling 1 + mark linearization 2 + mark analog 4
+
+abbrev pub noHalves : ℕ
+noHalves = 0
+
+-- each of them again
+abbrev pub inScaling : ℕ → Bool
+inScaling h = eqb (h % 2) 1
+
+abbrev pub inLinearization : ℕ → Bool
+inLinearization h = eqb (h / 2 % 2) 1
+
+abbrev pub inAnalog : ℕ → Bool
+inAnalog h = eqb (h / 4 % 2) 1
 
 -- "Scaling, linearization and analog value each pass on their own"; "All three are no under an error"
-unfoldable pub marksOf : Measurement → Bool → Halves
+unfoldable pub marksOf : Measurement → Bool → ℕ
 marksOf x analog = cond (eqb (errorNumber (x .measured .error)) 0) (halves (x .scaling) (x .linearization) analog) noHalves
 
-unfoldable pub halvesOf : List ℤ → Basis → Halves
+unfoldable pub halvesOf : List ℤ → Basis → ℕ
 halvesOf t b = marksOf (measurementAt t b) (codedAt (spanOf t) (measuredAt t b) .half)
 
 -- a reading with its marks

@@ -3,7 +3,7 @@
 ghost use mathlib.Core.Path.{_≡_};
 ghost use Rattle.parameters.specs.Valid.{Valid};
 ghost use Rattle.settings.specs.Settings.{layoutOf};
-ghost use Rattle.reading.specs.Reading.{acceptsOf, directedAt, basisOf, measurementAt, codeAt, codedAt, driveAt, noHalves, marksOf, markedOf};
+ghost use Rattle.reading.specs.Reading.{acceptsOf, directedAt, basisOf, measurementAt, codeAt, codedAt, driveAt, mark, marksOf, markedOf};
 use analog::Coded;
 use analog::Drive;
 use measurement::Error;
@@ -31,29 +31,11 @@ pub struct Reading {
     pub drive: Drive,
 }
 
-// Where a half decided.
-pub struct Halves {
-    pub scaling: bool,
-    pub linearization: bool,
-    // Of the code before it is held to its ends.
-    pub analog: bool,
-}
-
 // A reading with its marks.
 pub struct Marked {
     pub reading: Reading,
-    pub halves: Halves,
-}
-
-// No half decided.
-pub fn no_halves() -> Halves
-    ensures { λ r. ⌜ r ≡ noHalves ⌝ }
-{
-    Halves {
-        scaling: false,
-        linearization: false,
-        analog: false,
-    }
+    // Where a half decided: 1 for scaling, 2 for linearization, 4 for the code before it is held, added.
+    pub halves: u8,
 }
 
 // Whether a telegram has no bit set above bit N.
@@ -117,20 +99,26 @@ fn driven(a: Span, m: Measured, code: i32) -> Drive
     Drive::Off
 }
 
+// A mark's worth, or 0.
+fn mark(half: bool, worth: u8) -> u8
+    ensures { λ r. ⌜ r ≡ mark half worth ⌝ }
+{
+    if half {
+        return worth;
+    }
+    0
+}
+
 // The marks of a reading, with that of its code: none under an error.
-fn marks(x: Measurement, analog: bool) -> Halves
+fn marks(x: Measurement, analog: bool) -> u8
     ensures { λ r. ⌜ r ≡ marksOf x analog ⌝ }
 {
     let m = x.measured;
     let error = m.error;
     if measurement::error_number(error) == 0 {
-        return Halves {
-            scaling: x.scaling,
-            linearization: x.linearization,
-            analog,
-        };
+        return mark(x.scaling, 1) + mark(x.linearization, 2) + mark(analog, 4);
     }
-    no_halves()
+    0
 }
 
 // Result, error, code and drive of what a result starts from, and where a half decided.

@@ -9,7 +9,6 @@ use lib.Seq.{drop-cons}
 use Rattle.events.specs.declared.Event.{Event}
 use Rattle.events.specs.declared.Event.the-variants.{Telegram, Levels, Tick}
 use Rattle.integers.specs.ChoiceLaws.{by-test}
-use Rattle.reading.specs.declared.Halves.{Halves}
 use Rattle.reading.specs.Reading.{acceptsOf}
 use Rattle.panel.specs.declared.Answer.{Answer}
 use Rattle.state.specs.declared.State.{State}
@@ -41,7 +40,7 @@ module _ (s : State) (es : List Event) (i : ℕ) where
 abbrev pub Own : Answer → Type 0
 Own a = a ≡ answerOf (a .state) (a .note) (a .halves)
 
-pub answer-own : (s : State) (note : ℕ) (halves : Halves) → Own (answerOf s note halves)
+pub answer-own : (s : State) (note halves : ℕ) → Own (answerOf s note halves)
 unfolding answerOf
 answer-own s note halves = refl
 

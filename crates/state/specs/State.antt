@@ -8,7 +8,6 @@ use Rattle.analog.specs.declared.Drive.the-variants.{Off}
 use Rattle.measurement.specs.declared.Error.the-variants as Error
 use Rattle.reading.specs.declared.Basis.{Basis}
 use Rattle.reading.specs.declared.Reading.{Reading}
-use Rattle.reading.specs.declared.Halves.{Halves}
 use Rattle.reading.specs.Reading.{basisOf, readingOf, halvesOf}
 use Rattle.switching.specs.declared.Switch.{Switch}
 use Rattle.switching.specs.Switching.{freshSwitch}
@@ -57,6 +56,10 @@ setBasis l x = record { levels = l .levels; seen = true; basis = x; reading = l 
 abbrev pub setReading : Live → Reading → Extremes → Live
 setReading l x y = record { levels = l .levels; seen = l .seen; basis = l .basis; reading = x; shown = l .shown; extremes = y; switches = l .switches }
 
+-- a reading, and least and greatest with it
+abbrev pub setRead : Live → Reading → Live
+setRead l x = setReading l x (widenedOf (l .extremes) x)
+
 abbrev pub setShown : Live → ℤ → Live
 setShown l x = record { levels = l .levels; seen = l .seen; basis = l .basis; reading = l .reading; shown = x; extremes = l .extremes; switches = l .switches }
 
@@ -73,9 +76,6 @@ withLevels s x = stateOf (s .table) (setLevels (s .live) x)
 
 abbrev pub withBasis : State → Basis → State
 withBasis s x = stateOf (s .table) (setBasis (s .live) x)
-
-abbrev pub withReading : State → Reading → Extremes → State
-withReading s x y = stateOf (s .table) (setReading (s .live) x y)
 
 abbrev pub withShown : State → ℤ → State
 withShown s x = stateOf (s .table) (setShown (s .live) x)
@@ -94,11 +94,11 @@ abbrev pub readAgain : State → Reading
 readAgain s = readingOf (s .table) (s .live .basis)
 
 -- K7: the marks of that reading
-abbrev pub halvesIn : State → Halves
+abbrev pub halvesIn : State → ℕ
 halvesIn s = halvesOf (s .table) (s .live .basis)
 
 unfoldable pub rereadOf : State → State
-rereadOf s = withReading s (readAgain s) (widenedOf (s .live .extremes) (readAgain s))
+rereadOf s = stateOf (s .table) (setRead (s .live) (readAgain s))
 
 -- an accepted telegram
 unfoldable pub receivedOf : State → ℕ → State

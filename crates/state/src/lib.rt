@@ -1,14 +1,12 @@
 // The state of a panel: the table in force and the live values beside it; its fresh state, a telegram taken, and the result worked out again.
-// Uses `reading` for the result, `switching` for the switches, and the error and drive enums of `measurement` and `analog`. It knows no input and no command.
+// Uses `reading` for what a reading is, `switching` for the switches, and the error and drive enums of `measurement` and `analog`. It knows no input and no command.
 use reading::Basis;
-use reading::Halves;
 use reading::Reading;
 use switching::Switch;
 ghost use mathlib.Core.Bool.{cond};
 ghost use mathlib.Core.Path.{_≡_};
 ghost use lib.Signed.{ltZ};
-ghost use Rattle.parameters.specs.Valid.{Valid};
-ghost use Rattle.state.specs.State.{stateOf, freshOf, setLevels, setReading, setShown, setSwitches, halvesIn, rereadOf, receivedOf};
+ghost use Rattle.state.specs.State.{freshOf, setLevels, setBasis, setReading, setRead, setShown, setSwitches};
 ghost use Rattle.state.specs.Extremes.{errorIn, widenedOf};
 
 // The least and the greatest error-free result.
@@ -47,14 +45,8 @@ pub struct Outcome {
     pub live: Live,
     // The refusal of the event or of its lowest refused input, 0 for none.
     pub note: u8,
-    // Where a half decided in the result that it worked out; none where it worked out none.
-    pub halves: Halves,
-}
-
-// The live values, and the marks of the result last worked out in the event.
-pub struct Worked {
-    pub live: Live,
-    pub halves: Halves,
+    // Where a half decided in the result that it worked out: 1 for scaling, 2 for linearization, 4 for the analog code, added.
+    pub halves: u8,
 }
 
 // The state of a loaded table before the first event.
@@ -137,37 +129,25 @@ fn widened(x: Extremes, r: Reading) -> Extremes
     }
 }
 
-// The result worked out again under the table in force.
-pub fn reread(t: &[i32; 104], l: Live) -> Worked
-    requires { ⌜ Valid (now t) ⌝ }
-    ensures is { λ r. ⌜ stateOf (now (t .entry)) (r .live) ≡ rereadOf (stateOf (now (t .entry)) l) ⌝ }
-    ensures marks { λ r. ⌜ r .halves ≡ halvesIn (rereadOf (stateOf (now (t .entry)) l)) ⌝ }
+// The result worked out again: its reading, and least and greatest with it.
+pub fn reread(l: Live, r: Reading) -> Live
+    ensures { λ n. ⌜ n ≡ setRead l r ⌝ }
 {
-    let m = reading::read(t, l.basis);
-    let r = m.reading;
     let x = widened(l.extremes, r);
-    let live = with_reading(l, r, x);
-    let halves = m.halves;
-    Worked { live, halves }
+    with_reading(l, r, x)
 }
 
-// An accepted telegram taken: what its result starts from is kept, and the result is worked out.
-pub fn received(t: &[i32; 104], l: Live, telegram: u32) -> Worked
-    requires { ⌜ Valid (now t) ⌝ }
-    ensures is { λ r. ⌜ stateOf (now (t .entry)) (r .live) ≡ receivedOf (stateOf (now (t .entry)) l) telegram ⌝ }
-    ensures marks { λ r. ⌜ r .halves ≡ halvesIn (receivedOf (stateOf (now (t .entry)) l) telegram) ⌝ }
+// An accepted telegram taken: what its result starts from, its reading, and least and greatest with it.
+pub fn received(l: Live, b: Basis, r: Reading) -> Live
+    ensures { λ n. ⌜ n ≡ setRead (setBasis l b) r ⌝ }
 {
-    let b = reading::basis_of(t, telegram);
-    let m = reading::read(t, b);
-    let r = m.reading;
     let x = widened(l.extremes, r);
     let mut n = l;
     n.seen = true;
     n.basis = b;
     n.reading = r;
     n.extremes = x;
-    let halves = m.halves;
-    Worked { live: n, halves }
+    n
 }
 
 // Another reading, with least and greatest.

@@ -1,5 +1,4 @@
 -- `inputs::act` meets its contract. The invariant: the first i inputs have acted on what the call was given, where they act, and left their marks. The measure is what is left of the three.
-use borrow.Author.Needs.{needs}
 use Prim.Native.Nat.{_≤_, _-_}
 use mathlib.Core.Path.{_≡_, refl, _∙_}
 use mathlib.Core.Logic.{⊎-elim}
@@ -18,12 +17,9 @@ Inv-loop t₀ levels x₀ i₀ t x i = (i ≤ 3) × ((leftBy t x ≡ inputsOf le
 abbrev μ-loop : tie.MeasureT-loop
 μ-loop t₀ levels x₀ i₀ t x i = 3 - i
 
-no-halves-requires : tie.Need-no-halves-requires Inv-loop μ-loop
-no-halves-requires c κs = search needs
-
 loop-holds : tie.Need-loop-holds Inv-loop μ-loop
 unfolding inputsOf marksUpTo
-loop-holds c = (omega arith, (refl, c .no-halves .ensures))
+loop-holds c = (omega arith, (refl, refl))
 
 edge-requires : tie.Need-edge-requires Inv-loop μ-loop
 edge-requires c κs = omega arith
@@ -32,7 +28,7 @@ input-requires : tie.Need-input-requires Inv-loop μ-loop
 input-requires c κs =
     let turn = c .before .before .before .before .before .before in
     let l = turn .loop in
-    let s = turn .before .before in
+    let s = turn .before in
     let g = rw (← l .inv .1 .0) at (good-inputs (s .args .levels) (l .i) (acted (stateOf (s .args .t .now) (s .args .l)) 0) (s .pre)) in
     (g .table, omega arith)
 
@@ -57,7 +53,7 @@ loop-again c =
 returns : tie.Need-returns Inv-loop μ-loop
 returns c =
     let l = c .before .loop in
-    let s = c .before .before .before in
+    let s = c .before .before in
     let all : l .i ≡ 3 = omega arith in
     let f = stateOf (s .args .t .now) (s .args .l) in
     ((rw all at (l .inv .1 .0)) ∙ all-inputs f (s .args .levels), (rw all at (l .inv .1 .1)) ∙ all-marks f (s .args .levels))
@@ -68,7 +64,6 @@ act-spec =
     (tie.spec
     Inv-loop
     μ-loop
-    no-halves-requires
     loop-holds
     edge-requires
     input-requires

@@ -9,18 +9,17 @@ action-at-requires c κs = search needs
 
 command-requires : tie.Need-command-requires
 command-requires c κs = let b = c .before in
-    let s = b .before .before .before .before in
+    let s = b .before .before .before in
     (s .pre .0, rw (b .action-at .ensures) (input-aimed _ _))
 
 first-note-requires : tie.Need-first-note-requires
 first-note-requires c κs = search needs
 
 returns : tie.Need-returns
-returns c =
-    let y = c .before .before .before in
-    let a = y .before .before .action-at .ensures in
-    let is = rw a at (y .command .ensures .0) in
-    (rw (c .before .before .first-note .ensures, ← is), rw a at (y .command .ensures .1))
+returns c = let b = c .before .before in
+    let a = b .before .before .action-at .ensures in
+    let is = rw a at (b .command .ensures .0) in
+    (rw (c .before .first-note .ensures, ← is), rw a at (b .command .ensures .1))
 
 pub input-spec : {M : Type 1} → statement M
 input-spec = tie.close (tie.spec action-at-requires command-requires first-note-requires returns)

@@ -1,4 +1,4 @@
--- `inputs::reset` meets its contract: the offset stored is the position after direction, and the table stays valid.
+-- `inputs::reset` meets its contract: the offset stored is the position after direction, the table stays valid, and the result is worked out under it.
 use borrow.Author.Needs.{needs}
 use mathlib.Core.Path.{_≡_}
 use native.Mathlib.Omega.{arith}
@@ -7,6 +7,8 @@ use mir.Syntax.{w32}
 use mir.Val.{toZ}
 use mir.Facts.{toZ-pos}
 use Rattle.parameters.specs.StoreLaws.{valid-offset}
+use Rattle.reading.specs.Reading.{markedOf}
+use Rattle.state.specs.State.{rereadOf}
 use Rattle.inputs.specs.Commands.{resetOf}
 use Rattle.inputs.proofs.reset.Statement.{statement}
 use Rattle.inputs.proofs.reset.Tie as tie
@@ -20,17 +22,21 @@ store-offset-requires c κs = search needs
 directed-is : (c : tie.After-store-offset) → let l = c .before .before .before .before .args .l in toZ w32 (l .basis .directed) ≡ pos (l .basis .directed)
 directed-is c = let s = c .before .before .before .before in toZ-pos w32 {n = s .args .l .basis .directed} (omega (arith, s .pre .1))
 
-reread-requires : tie.Need-reread-requires
-reread-requires c κs = let b = c .before in
+read-requires : tie.Need-read-requires
+read-requires c κs = let b = c .before in
     let s = b .before .before .before .before in
     rw (b .store-offset .ensures, directed-is b) (valid-offset (s .pre .0) (record { above = s .pre .1; below = omega arith }))
 
+reread-requires : tie.Need-reread-requires
+reread-requires c κs = search needs
+
 returns : tie.Need-returns
-unfolding resetOf
-returns c = let b = c .before .before in
-    let is = rw (b .store-offset .ensures, directed-is b) at (c .reread .ensures .0) in
-    let marks = rw (b .store-offset .ensures, directed-is b) at (c .reread .ensures .1) in
-    (rw (b .store-offset .ensures, directed-is b) is, marks)
+unfolding resetOf rereadOf markedOf
+returns c =
+    let m = c .before .before in
+    let b = m .before .before in
+    let o = b .store-offset .ensures in
+    (rw (c .reread .ensures, m .read .ensures, o, directed-is b), rw (m .read .ensures, o, directed-is b))
 
 pub reset-spec : {M : Type 1} → statement M
-reset-spec = tie.close (tie.spec cast-store-offset store-offset-requires reread-requires returns)
+reset-spec = tie.close (tie.spec cast-store-offset store-offset-requires read-requires reread-requires returns)

@@ -1,10 +1,18 @@
 -- `measurement::measure` meets its contract: each step's answer is the next step's argument, and its size is what that step asks.
 use borrow.Author.Needs.{needs}
-use mathlib.Core.Path.{_≡_, _∙_}
+use mathlib.Core.Path.{_≡_, ap, _∙_}
+use mathlib.Core.Bool.{Bool}
+use mathlib.Core.List.{List}
+use Prim.Native.Nat.{ℕ}
+use lib.IntN.{ℤ}
 use native.Mathlib.Omega.{arith}
 use mir.Syntax.{w32, w64}
 use Rattle.integers.specs.IntLaws.{bk, back-at}
+use Rattle.integers.specs.declared.Rounded.{Rounded}
 use Rattle.integers.specs.Round.{rounding}
+use Rattle.measurement.specs.declared.Measured.{Measured}
+use Rattle.measurement.specs.declared.Measurement.{Measurement}
+use Rattle.measurement.specs.declared.Scaling.{Scaling}
 use Rattle.measurement.specs.Curve.{linearizedOf, linearizedBy}
 use Rattle.measurement.specs.Measure.{distanceOf, distanceAt, scaledBy, scaledAt, usedPoints, valueOf, measuredOf, scalingHalf, lineHalf, measurementOf}
 use Rattle.measurement.specs.MeasureLaws.{distance-within, scaled-within}
@@ -55,13 +63,20 @@ linearized-requires c κs =
 judged-requires : tie.Need-judged-requires
 judged-requires c κs = search needs
 
+-- a reading and two marks that are right are the measurement
+together : (s : Scaling) (ws : List ℤ) (p : ℕ) (b : Bool) (m : Measured) (x y : Bool) → m ≡ measuredOf s ws p b → x ≡ scalingHalf s p → y ≡ lineHalf s ws p →
+    _≡_ {A = Measurement} (record { measured = m; scaling = x; linearization = y }) (measurementOf s ws p b)
+unfolding measurementOf
+together s ws p b m x y e f g = rw (e, f, g)
+
 returns : tie.Need-returns
-unfolding measurementOf measuredOf valueOf usedPoints scalingHalf lineHalf linearizedBy linearizedOf rounding
+unfolding measuredOf valueOf usedPoints scalingHalf lineHalf linearizedBy linearizedOf rounding
 returns c =
     let l = c .before .before .linearized in
     let n = c .before .before .before in
     let w : bk w64 (l .result .value) ≡ l .result .value = search needs in
-    rw (c .judged .ensures, w, l .ensures, v-kept n, v-is (n .before))
+    together _ _ _ _ _ _ _ (rw (c .judged .ensures, w, l .ensures, v-kept n)) (ap (λ (r : Rounded). r .half) (v-is (n .before)))
+    (ap (λ (r : Rounded). r .half) (rw (v-kept n) at (l .ensures)))
 
 pub measure-spec : {M : Type 1} → statement M
 measure-spec = tie.close (tie.spec distance-requires scaled-requires linearized-requires judged-requires returns)

@@ -35,13 +35,13 @@ ended t b l a on s e = ap (Î» (x : State). answerOf x (b .note) (b .halves)) s â
 returns : tie.Need-returns
 unfolding answerOf
 returns c = let test = c .before .before in
-    let b = test .before .before .before in
+    let b = test .before .before in
     let a = b .before .before in
     promised _ (a .args .e) _ (a .pre) (ended _ (b .begin .result) (c .settle .result) _ (test .if1 .taken) (c .settle .ensures) (b .begin .ensures))
 
 returns-2 : tie.Need-returns-2
 unfolding answerOf
-returns-2 c = let b = c .before .before .before in
+returns-2 c = let b = c .before .before in
     let a = b .before .before in
     promised _ (a .args .e) _ (a .pre) (rw (c .if1 .left) at (b .begin .ensures))
 

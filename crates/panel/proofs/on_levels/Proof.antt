@@ -21,9 +21,8 @@ with-levels-requires c κs = search needs
 returns-2 : tie.Need-returns-2
 unfolding onLevels
 returns-2 c =
-    let n = c .before in
-    let x = n .before .before in
-    rw (le-leb _ _ (x .before .before .if1 .left), n .with-levels .ensures, ← x .act .ensures .0, x .act .ensures .1)
+    let x = c .before .before in
+    rw (le-leb _ _ (x .before .before .if1 .left), c .with-levels .ensures, ← x .act .ensures .0, x .act .ensures .1)
 
 pub on-levels-spec : {M : Type 1} → statement M
 on-levels-spec = tie.close (tie.spec refused-requires returns act-requires with-levels-requires returns-2)

@@ -1,6 +1,8 @@
 -- `panel::on_telegram` meets its contract: refused it leaves the old values, else what is received, with its marks.
 use borrow.Author.Needs.{needs}
 use borrow.Author.Tests.{not-true, not-false}
+use Rattle.reading.specs.Reading.{markedOf}
+use Rattle.state.specs.State.{rereadOf, receivedOf}
 use Rattle.panel.specs.Step.{onTelegram}
 use Rattle.panel.proofs.on_telegram.Statement.{statement}
 use Rattle.panel.proofs.on_telegram.Tie as tie
@@ -18,16 +20,24 @@ returns c =
     let a = test .before .accepts in
     rw (← a .ensures, not-true (a .result) (test .if1 .taken), c .refused .ensures)
 
+basis-of-requires : tie.Need-basis-of-requires
+basis-of-requires c κs = search needs
+
+read-requires : tie.Need-read-requires
+read-requires c κs = search needs
+
 received-requires : tie.Need-received-requires
 received-requires c κs = search needs
 
 returns-2 : tie.Need-returns-2
-unfolding onTelegram
+unfolding onTelegram receivedOf rereadOf markedOf
 returns-2 c =
-    let x = c .before .before in
-    let test = x .before in
+    let m = c .before .before in
+    let b = m .before in
+    let test = b .before in
     let a = test .before .accepts in
-    rw (← a .ensures, not-false (a .result) (test .if1 .left), x .received .ensures .0, x .received .ensures .1)
+    rw (← a .ensures, not-false (a .result) (test .if1 .left), c .received .ensures, m .read .ensures, b .basis-of .ensures)
 
 pub on-telegram-spec : {M : Type 1} → statement M
-on-telegram-spec = tie.close (tie.spec accepts-requires refused-requires returns received-requires returns-2)
+on-telegram-spec =
+    tie.close (tie.spec accepts-requires refused-requires returns basis-of-requires read-requires received-requires returns-2)

@@ -9,13 +9,8 @@ tick-all-requires c κs = search needs
 with-switches-requires : tie.Need-with-switches-requires
 with-switches-requires c κs = search needs
 
-no-halves-requires : tie.Need-no-halves-requires
-no-halves-requires c κs = search needs
-
 returns : tie.Need-returns
-returns c =
-    let n = c .before in
-    rw (n .with-switches .ensures, n .before .tick-all .ensures, c .no-halves .ensures)
+returns c = rw (c .with-switches .ensures, c .before .tick-all .ensures)
 
 pub on-tick-spec : {M : Type 1} → statement M
-on-tick-spec = tie.close (tie.spec tick-all-requires with-switches-requires no-halves-requires returns)
+on-tick-spec = tie.close (tie.spec tick-all-requires with-switches-requires returns)

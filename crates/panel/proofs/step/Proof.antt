@@ -14,7 +14,7 @@ answered-requires c κs = search needs
 returns : tie.Need-returns
 unfolding answerOf
 returns c =
-    let a = c .before .before .before .advance in
+    let a = c .before .before .advance in
     let is = c .answered .ensures ∙ a .ensures .0 in
     (is, rw (c .answered .ensures) (a .ensures .1))
 
