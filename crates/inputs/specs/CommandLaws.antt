@@ -23,7 +23,7 @@ use Rattle.state.specs.State.{withTable, errorOf, halvesIn}
 use Rattle.state.specs.Valid.{Good}
 use Rattle.state.specs.ValidLaws.{good-reread}
 use Rattle.inputs.specs.Commands.{Acted, acted, resetRefusal, resetOf, clearLocksOf, clearExtremesOf, teachOf, refusalOf, carriedOut, marksAfter, commandOf}
-use Rattle.inputs.specs.Levels.{edgeAt, inputOf, commandsOf, marksAt, marksOf}
+use Rattle.inputs.specs.Levels.{edgeAt, inputOf, commandsOf, marksAt, marksLeft}
 
 -- ---- the cases
 
@@ -118,8 +118,8 @@ unfoldable pub marksUpTo : ℕ → ℕ → Acted → ℕ
 marksUpTo l zero x = noHalves
 marksUpTo l (suc n) x = marksAt l n (inputsOf l n x) (marksUpTo l n x)
 
-pub all-marks : (s : State) (l : ℕ) → marksUpTo l 3 (acted s 0) ≡ marksOf s l
-unfolding marksUpTo inputsOf marksOf
+pub all-marks : (s : State) (l : ℕ) → marksUpTo l 3 (acted s 0) ≡ marksLeft s l
+unfolding marksUpTo inputsOf marksLeft
 all-marks s l = refl
 
 pub good-inputs : (l n : ℕ) (x : Acted) → Good (x .state) → Good (inputsOf l n x .state)

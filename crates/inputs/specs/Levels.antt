@@ -55,5 +55,5 @@ unfoldable pub commandsOf : State → ℕ → Acted
 commandsOf s l = inputOf l 2 (inputOf l 1 (inputOf l 0 (acted s 0)))
 
 -- K7: the marks of the last reset carried out, none where there is none
-unfoldable pub marksOf : State → ℕ → ℕ
-marksOf s l = marksAt l 2 (inputOf l 1 (inputOf l 0 (acted s 0))) (marksAt l 1 (inputOf l 0 (acted s 0)) (marksAt l 0 (acted s 0) noHalves))
+unfoldable pub marksLeft : State → ℕ → ℕ
+marksLeft s l = marksAt l 2 (inputOf l 1 (inputOf l 0 (acted s 0))) (marksAt l 1 (inputOf l 0 (acted s 0)) (marksAt l 0 (acted s 0) noHalves))

@@ -14,7 +14,7 @@ ghost use Rattle.settings.specs.Settings.{Aimed, inputAt};
 ghost use Rattle.state.specs.State.{stateOf, halvesIn};
 ghost use Rattle.state.specs.Valid.{Good};
 ghost use Rattle.inputs.specs.Commands.{acted, leftBy, resetRefusal, resetOf, locksCleared, extremesAt, extremesCleared, teachRefusal, teachOf, refusalOf, carriedOut, marksAfter, commandOf};
-ghost use Rattle.inputs.specs.Levels.{highAt, onRise, actsOn, edgeIn, firstNote, inputActs, commandsOf, marksOf};
+ghost use Rattle.inputs.specs.Levels.{highAt, onRise, actsOn, edgeIn, firstNote, inputActs, commandsOf, marksLeft};
 ghost use Rattle.inputs.specs.Freeze.{lasts, freezes, frozen};
 
 // Why a reset is refused: 13 before 12, or 0.
@@ -120,7 +120,7 @@ fn refusal(a: Action, t: &[i32; 104], l: Live) -> u8
 }
 
 // An outcome for which no result was worked out: the marks stay as they were.
-fn marked(live: Live, note: u8, halves: u8) -> Outcome
+fn kept(live: Live, note: u8, halves: u8) -> Outcome
     ensures { λ r. ⌜ r ≡ record { live = live; note = note; halves = halves } ⌝ }
 {
     Outcome { live, note, halves }
@@ -133,12 +133,12 @@ fn carry_out(a: Action, t: &mut [i32; 104], l: Live, halves: u8) -> Outcome
     ensures marks { λ r. ⌜ r .halves ≡ marksAfter a (stateOf (now (t .entry)) l) halves ⌝ }
 {
     match a {
-        Action::None => marked(l, 0, halves),
+        Action::None => kept(l, 0, halves),
         Action::Reset => reset(t, l),
-        Action::Freeze => marked(l, 0, halves),
-        Action::ClearLocks => marked(clear_locks(l), 0, halves),
-        Action::ClearExtremes => marked(clear_extremes(l), 0, halves),
-        Action::Teach(k) => marked(teach(t, l, k), 0, halves),
+        Action::Freeze => kept(l, 0, halves),
+        Action::ClearLocks => kept(clear_locks(l), 0, halves),
+        Action::ClearExtremes => kept(clear_extremes(l), 0, halves),
+        Action::Teach(k) => kept(teach(t, l, k), 0, halves),
     }
 }
 
@@ -150,7 +150,7 @@ fn command(a: Action, t: &mut [i32; 104], l: Live, halves: u8) -> Outcome
 {
     let note = refusal(a, t, l);
     if note != 0 {
-        return marked(l, note, halves);
+        return kept(l, note, halves);
     }
     carry_out(a, t, l, halves)
 }
@@ -229,7 +229,7 @@ fn input(t: &mut [i32; 104], x: Outcome, i: usize) -> Outcome
 pub fn act(t: &mut [i32; 104], l: Live, levels: u8) -> Outcome
     requires { ⌜ Good (stateOf (now t) l) ⌝ }
     ensures is { λ r. ⌜ leftBy (now (t .exit)) r ≡ commandsOf (stateOf (now (t .entry)) l) levels ⌝ }
-    ensures marks { λ r. ⌜ r .halves ≡ marksOf (stateOf (now (t .entry)) l) levels ⌝ }
+    ensures marks { λ r. ⌜ r .halves ≡ marksLeft (stateOf (now (t .entry)) l) levels ⌝ }
 {
     let mut x = Outcome {
         live: l,

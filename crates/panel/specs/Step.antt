@@ -8,7 +8,7 @@ use lib.IntN.{ℤ}
 use Rattle.state.specs.declared.Outcome.{Outcome}
 use Rattle.state.specs.declared.State.{State}
 use Rattle.state.specs.State.{stateOf, withLevels, withShown, withSwitches, halvesIn, receivedOf}
-use Rattle.inputs.specs.Levels.{commandsOf, marksOf}
+use Rattle.inputs.specs.Levels.{commandsOf, marksLeft}
 use Rattle.inputs.specs.Freeze.{frozen}
 use Rattle.events.specs.declared.Event.{Event}
 use Rattle.events.specs.declared.Event.the-variants.{Telegram, Levels, Tick}
@@ -72,7 +72,7 @@ onTelegram s w = cond (acceptsOf (s .table) w) (answerOf (settledOf (receivedOf 
 
 -- 10: levels above 7
 unfoldable pub onLevels : State → ℕ → Answer
-onLevels s l = cond (leb l 7) (answerOf (settledOf (withLevels (commandsOf s l .state) l)) (commandsOf s l .note) (marksOf s l)) (answerOf s 10 noHalves)
+onLevels s l = cond (leb l 7) (answerOf (settledOf (withLevels (commandsOf s l .state) l)) (commandsOf s l .note) (marksLeft s l)) (answerOf s 10 noHalves)
 
 -- Switching, "ticks use it up": pulses, and through them signals and outputs
 unfoldable pub onTick : State → ℕ → Answer

@@ -10,8 +10,8 @@ use Rattle.inputs.proofs.command.Tie as tie
 refusal-requires : tie.Need-refusal-requires
 refusal-requires c κs = search needs
 
-marked-requires : tie.Need-marked-requires
-marked-requires c κs = search needs
+kept-requires : tie.Need-kept-requires
+kept-requires c κs = search needs
 
 returns : tie.Need-returns
 unfolding commandOf
@@ -19,7 +19,7 @@ returns c =
     let test = c .before in
     let r = test .before .refusal in
     let n = ne-eqb _ _ (λ z. test .if1 .taken (r .ensures ∙ z)) in
-    (rw (n, c .marked .ensures, r .ensures), rw (c .marked .ensures) (sym (refused-keeps _ _ _ n)))
+    (rw (n, c .kept .ensures, r .ensures), rw (c .kept .ensures) (sym (refused-keeps _ _ _ n)))
 
 carry-out-requires : tie.Need-carry-out-requires
 carry-out-requires c κs = search needs
@@ -31,4 +31,4 @@ returns-2 c =
     (rw (eq-eqb _ _ (sym (test .before .refusal .ensures) ∙ test .if1 .left)) (c .carry-out .ensures .0), c .carry-out .ensures .1)
 
 pub command-spec : {M : Type 1} → statement M
-command-spec = tie.close (tie.spec refusal-requires marked-requires returns carry-out-requires returns-2)
+command-spec = tie.close (tie.spec refusal-requires kept-requires returns carry-out-requires returns-2)
