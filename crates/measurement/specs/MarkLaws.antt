@@ -41,8 +41,9 @@ at-left p p₁ = ap (λ (z : ℤ). halved z (pos dx)) upper ∙ multiple-no-half
     upper = ring (var (p .y) ⊗ lit dx ⊕ (var (p .x) ⊖ var (p .x) ⊗ lit 1) ⊗ (var (p₁ .y) ⊖ var (p .y))) (var (p .y) ⊗ lit dx) (omega arith)
 
 module _ {ws : List ℤ} {n : ℕ} (u : Usable ws n) where
-  abbrev mark : ℤ → Type 0
-  mark v = halfway (fourQuadrants (pointsFrom ws 0 n) (whole v)) ≡ false
+  -- the curve at v is no half
+  abbrev pub Unmarked : ℤ → Type 0
+  Unmarked v = halfway (fourQuadrants (pointsFrom ws 0 n) (whole v)) ≡ false
 
   -- the search at a point's own x finds that point
   own : (i j : ℕ) → i < n → Highest ws n (pointAt ws i .x) j → j ≡ i
@@ -64,17 +65,17 @@ module _ {ws : List ℤ} {n : ℕ} (u : Usable ws n) where
               rises i l = subst (λ (k : ℕ). T (ltZ (pointAt ws i .x) (pointAt ws k .x))) (omega arith) (u .rises i (omega arith))
 
   -- what the search finds says it: nothing, or the last point, or a point on its own x
-  at-nothing : (v : ℤ) → highestOf ws n v ≡ Nothing → mark v
+  at-nothing : (v : ℤ) → highestOf ws n v ≡ Nothing → Unmarked v
   at-nothing v e = ap halfway (value-none u v e) ∙ whole-no-half (pointAt ws 0 .y)
 
-  at-last : (v : ℤ) (i : ℕ) → highestOf ws n v ≡ At i → i + 1 ≡ n → mark v
+  at-last : (v : ℤ) (i : ℕ) → highestOf ws n v ≡ At i → i + 1 ≡ n → Unmarked v
   at-last v i e l = ap halfway (value-last u v i e l) ∙ whole-no-half (pointAt ws i .y)
 
   -- before the first point
-  pub before-first : (v : ℤ) → T (ltZ v (pointAt ws 0 .x)) → mark v
+  pub before-first : (v : ℤ) → T (ltZ v (pointAt ws 0 .x)) → Unmarked v
   before-first v t = go (highestOf ws n v) refl
     where
-      go : (f : Found) → highestOf ws n v ≡ f → mark v
+      go : (f : Found) → highestOf ws n v ≡ f → Unmarked v
       go Nothing e = at-nothing v e
       go (At i) e =
           let f = found-at ws n v i e in
@@ -84,7 +85,7 @@ module _ {ws : List ℤ} {n : ℕ} (u : Usable ws n) where
           absurd (omega arith)
 
   -- from the last point on
-  pub from-last : (v : ℤ) → T (leZ (pointAt ws (n - 1) .x) v) → mark v
+  pub from-last : (v : ℤ) → T (leZ (pointAt ws (n - 1) .x) v) → Unmarked v
   from-last v t = go (highestOf ws n v) refl
     where
       over : T (ltZ v (pointAt ws (n - 1) .x)) → ⊥
@@ -93,29 +94,29 @@ module _ {ws : List ℤ} {n : ℕ} (u : Usable ws n) where
           let b = le-ex (var (pointAt ws (n - 1) .x)) (var v) t in
           omega arith
 
-      go : (f : Found) → highestOf ws n v ≡ f → mark v
+      go : (f : Found) → highestOf ws n v ≡ f → Unmarked v
       go Nothing e = at-nothing v e
       go (At i) e = last (decLe n (i + 1))
         where
-          last : Dec (n ≤ i + 1) → mark v
+          last : Dec (n ≤ i + 1) → Unmarked v
           last (yes l) = at-last v i e (omega (arith, found-at ws n v i e .used))
           last (no l) = absurd (over (found-at ws n v i e .above (n - 1) (omega (arith, l)) (omega (arith, u .some))))
 
   -- at a point
-  pub at-point : (i : ℕ) → i < n → mark (pointAt ws i .x)
+  pub at-point : (i : ℕ) → i < n → Unmarked (pointAt ws i .x)
   at-point i h = go (highestOf ws n x) refl
     where
       x : ℤ
       x = pointAt ws i .x
 
-      go : (f : Found) → highestOf ws n x ≡ f → mark x
+      go : (f : Found) → highestOf ws n x ≡ f → Unmarked x
       go Nothing e = at-nothing x e
       go (At j) e = at (decLe n (j + 1))
         where
           f : Highest ws n x j
           f = found-at ws n x j e
 
-          at : Dec (n ≤ j + 1) → mark x
+          at : Dec (n ≤ j + 1) → Unmarked x
           at (yes l) = at-last x j e (omega (arith, f .used))
           at (no l) =
               ap halfway (value-line u x j e (omega (arith, l)))
