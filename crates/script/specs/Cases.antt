@@ -6,7 +6,7 @@ use Rattle.text.specs.HexList.{allHexWords, areHex, hexesOf}
 use Rattle.decimal.specs.Decimal.{digitsIn, digitsOf, textOf, valueFrom, numberIn, sameText, parsedOf}
 use Rattle.text.specs.Words.{partsOf, wordsOf, trimmedOf}
 use Rattle.text.specs.Hex.{hexDigit, allHex, isHex, hexFrom, hexLetter, spacedPairs, hexText}
-use Rattle.script.specs.Commands.{naturalIn, naturalBy, naturalOf, signedIn, signedBy, signedOf, slotOf, startOf, halvesOf, telegramIn, levelsOf, isFrame, framedOf, namedIn, meaningOf, frameIn, frameOf, commandOf}
+use Rattle.script.specs.Commands.{naturalIn, naturalBy, naturalOf, signedIn, signedBy, signedOf, slotOf, aloneOf, telegramIn, levelsOf, isFrame, framedOf, namedIn, meaningOf, frameIn, frameOf, commandOf}
 use Rattle.script.specs.declared.Command.the-variants.{Blank, Wrong, Slot, Start, Halves, Telegram, Levels, Frame}
 
 -- `  t  1aF` and a carriage return
@@ -39,20 +39,20 @@ slot-line = refl
 
 -- `start` and `start 1`
 start-line : commandOf (115 ∷ 116 ∷ 97 ∷ 114 ∷ 116 ∷ []) ≡ Start
-unfolding commandOf trimmedOf wordsOf partsOf meaningOf namedIn sameText startOf
+unfolding commandOf trimmedOf wordsOf partsOf meaningOf namedIn sameText aloneOf
 start-line = refl
 
 start-more : commandOf (115 ∷ 116 ∷ 97 ∷ 114 ∷ 116 ∷ 32 ∷ 49 ∷ []) ≡ Wrong 5
-unfolding commandOf trimmedOf wordsOf partsOf meaningOf namedIn sameText startOf
+unfolding commandOf trimmedOf wordsOf partsOf meaningOf namedIn sameText aloneOf
 start-more = refl
 
 -- `halves` and a carriage return, and `halves 1`
 halves-line : commandOf (104 ∷ 97 ∷ 108 ∷ 118 ∷ 101 ∷ 115 ∷ 13 ∷ []) ≡ Halves
-unfolding commandOf trimmedOf wordsOf partsOf meaningOf namedIn sameText halvesOf
+unfolding commandOf trimmedOf wordsOf partsOf meaningOf namedIn sameText aloneOf
 halves-line = refl
 
 halves-more : commandOf (104 ∷ 97 ∷ 108 ∷ 118 ∷ 101 ∷ 115 ∷ 32 ∷ 49 ∷ []) ≡ Wrong 10
-unfolding commandOf trimmedOf wordsOf partsOf meaningOf namedIn sameText halvesOf
+unfolding commandOf trimmedOf wordsOf partsOf meaningOf namedIn sameText aloneOf
 halves-more = refl
 
 -- `f` alone is a frame of no bytes, `f 01 fF` one of two; `f 1` is none

@@ -18,7 +18,7 @@ use Rattle.script.specs.declared.Integer.{Integer}
 use Rattle.script.specs.declared.Integer.the-variants.{Word, Other}
 use Rattle.script.specs.declared.Command.{Command}
 use Rattle.script.specs.declared.Command.the-variants.{Blank, Wrong, Node, Slot, Start, Halves, Telegram, Levels, Tick, Frame}
-use Rattle.script.specs.Commands.{naturalOf, signedOf, lastNode, lastSlot, tooLong, badTelegram, badFrame, nodeBy, nodeOf, slotBy, slotOf, startOf, halvesOf, telegramIn, levelsBy, levelsOf, tickBy, tickOf, isFrame, framedOf, Entry, table, namedIn, meaningOf, longest, hash, commandOf}
+use Rattle.script.specs.Commands.{naturalOf, signedOf, lastNode, lastSlot, tooLong, badStart, badHalves, badTelegram, badFrame, nodeBy, nodeOf, slotBy, slotOf, aloneOf, startOf, halvesOf, telegramIn, levelsBy, levelsOf, tickBy, tickOf, isFrame, framedOf, Entry, table, namedIn, meaningOf, longest, hash, commandOf}
 use Rattle.script.specs.NumberLaws.{count-most}
 
 -- whether the numbers of a command lie in their ranges
@@ -57,15 +57,18 @@ slot-in ws = by (naturalOf lastSlot (firstOf ws)) refl (signedOf (onlyOf (others
     by (Count n) e Other = refl
     by Missing e v = refl
 
+alone-in : (c : Command) (reason : ℕ) → inRange c ≡ true → (ws : List (List ℕ)) → inRange (aloneOf c reason ws) ≡ true
+unfolding aloneOf inRange
+alone-in c reason e [] = e
+alone-in c reason e (w ∷ ws) = refl
+
 start-in : (ws : List (List ℕ)) → inRange (startOf ws) ≡ true
-unfolding startOf inRange
-start-in [] = refl
-start-in (w ∷ ws) = refl
+unfolding inRange
+start-in = alone-in Start badStart refl
 
 halves-in : (ws : List (List ℕ)) → inRange (halvesOf ws) ≡ true
-unfolding halvesOf inRange
-halves-in [] = refl
-halves-in (w ∷ ws) = refl
+unfolding inRange
+halves-in = alone-in Halves badHalves refl
 
 telegram-in : (ws : List (List ℕ)) → inRange (telegramIn ws) ≡ true
 unfolding telegramIn inRange

@@ -18,7 +18,7 @@ use Rattle.text.specs.PlainLaws.{words-back, trimmed-same, text-plain}
 use Rattle.text.specs.Hex.{hexIn, pairWords, allBytes}
 use Rattle.text.specs.HexLaws.{hex-is, spaced-length}
 use Rattle.text.specs.HexBackLaws.{hexin-length, hexin-hex, hexin-word, hexin-back, pair-back, pair-hex, pairs-count, pair-words, pair-text}
-use Rattle.script.specs.Commands.{naturalBy, naturalIn, naturalOf, signedBy, signedOf, nodeOf, slotOf, startOf, halvesOf, telegramIn, levelsOf, tickOf, framedOf, mostBytes, isFrame, frameIn, frameOf, namedIn, namedOf, meaningOf, longest, hash, commandOf, nodeWord, slotWord, startWord, halvesWord, telegramWord, levelsWord, tickWord, frameWord}
+use Rattle.script.specs.Commands.{naturalBy, naturalIn, naturalOf, signedBy, signedOf, nodeOf, slotOf, aloneOf, telegramIn, levelsOf, tickOf, framedOf, mostBytes, isFrame, frameIn, frameOf, namedIn, namedOf, meaningOf, longest, hash, commandOf, nodeWord, slotWord, startWord, halvesWord, telegramWord, levelsWord, tickWord, frameWord}
 use Rattle.script.specs.NumberLaws.{signed-word}
 use Rattle.script.specs.declared.Command.the-variants.{Node, Slot, Start, Halves, Telegram, Levels, Tick, Frame}
 
@@ -91,12 +91,12 @@ telegram-back n h =
 
 -- `start` is read back
 pub start-back : commandOf (spoken (startWord ∷ [])) ≡ Start
-unfolding namedIn sameText startOf allPlain spoken
+unfolding namedIn sameText aloneOf allPlain spoken
 start-back = plain-means startWord [] (last (record { some = omega arith; all = refl })) (λ q. omega arith) (omega arith)
 
 -- `halves` is read back
 pub halves-back : commandOf (spoken (halvesWord ∷ [])) ≡ Halves
-unfolding namedIn sameText halvesOf allPlain spoken
+unfolding namedIn sameText aloneOf allPlain spoken
 halves-back = plain-means halvesWord [] (last (record { some = omega arith; all = refl })) (λ q. omega arith) (omega arith)
 
 -- ---- frames
