@@ -13,6 +13,7 @@ pub mod RoundLaws
 pub mod HalfLaws
 pub mod OrderLaws
 pub mod FloorLaws
+pub mod ModLaws
 pub mod Upward
 pub mod UpwardLaws
 pub mod TwosComplementLaws
