@@ -15,6 +15,7 @@ use Rattle.parameters.specs.Load as load
 use Rattle.parameters.specs.Rows as row
 use Rattle.parameters.specs.Search as search
 use Rattle.parameters.specs.Slots as slot
+use Rattle.reading.specs.Follow as follow
 use Rattle.reading.specs.Reading as reading
 use Rattle.settings.specs.Settings as settings
 use Rattle.events.specs.declared.Event.{Event}
@@ -133,5 +134,5 @@ more = Levels 1 ∷ Telegram 1003 ∷ []
 -- 1,000 gives 1,000; then a reset; then 1,003 gives 3
 pub reset-between :
     (resetIn resetting (bookOf resetting atFirst) more ≡ true) × ((lastAnswer resetting atFirst .result ≡ pos 1000) × (lastAnswer resetting (atFirst ++ more) .result ≡ pos 3))
-unfolding lastOf answersOf freshOf step.stepOf step.onTelegram step.onLevels step.answerOf step.displayedOf step.switchedOf state.receivedOf state.rereadOf reading.acceptsOf reading.directedAt reading.basisOf reading.measuredAt reading.readingOf settings.layoutOf settings.scalingOf settings.pointsOf settings.inputAt settings.actionOf settings.configOf ssi.accepted ssi.errorReported ssi.positionOf measure.directedOf measure.distanceOf measure.scaledOf measure.judgedOf measure.usedPoints measure.valueOf measure.measuredOf curve.curve curve.linearizedOf roundDiv row.defaultTable row.defaultsFrom row.rowAt row.rowOf resetBy resetIn some book.asksReset book.bookRefusal book.bookInput book.bookStep book.bookFrom commands.resetRefusal commands.refusalOf commands.resetOf commands.carriedOut commands.commandOf levels.edgeAt levels.inputOf levels.commandsOf levels.actsOn
+unfolding lastOf answersOf freshOf step.stepOf step.onTelegram step.onLevels step.answerOf step.displayedOf step.switchedOf state.receivedOf state.rereadOf reading.acceptsOf reading.directedAt reading.basisOf follow.basisAfter reading.measuredAt reading.readingOf settings.layoutOf settings.scalingOf settings.pointsOf settings.inputAt settings.actionOf settings.configOf ssi.accepted ssi.errorReported ssi.positionOf measure.directedOf measure.distanceOf measure.scaledOf measure.judgedOf measure.usedPoints measure.valueOf measure.measuredOf curve.curve curve.linearizedOf roundDiv row.defaultTable row.defaultsFrom row.rowAt row.rowOf resetBy resetIn some book.asksReset book.bookRefusal book.bookInput book.bookStep book.bookFrom commands.resetRefusal commands.refusalOf commands.resetOf commands.carriedOut commands.commandOf levels.edgeAt levels.inputOf levels.commandsOf levels.actsOn
 reset-between = (refl, (refl, refl))

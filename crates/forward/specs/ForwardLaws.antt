@@ -17,7 +17,6 @@ use Rattle.events.specs.declared.Event.the-variants.{Telegram, Levels, Tick}
 use Rattle.integers.specs.Choice.{some}
 use Rattle.integers.specs.ChoiceLaws.{by-test, is-true}
 use Rattle.integers.specs.Fraction.{whole}
-use Rattle.integers.specs.Int.{P}
 use Rattle.integers.specs.IntLaws.{ints}
 use Rattle.integers.specs.OrderLaws.{nearest-mono}
 use Rattle.integers.specs.RingLaws.{var, lit, _⊕_, _⊖_, _⊗_, le, mul-mono}
@@ -37,9 +36,9 @@ use Rattle.parameters.specs.Slots as slot
 use Rattle.parameters.specs.StoreLaws.{alike-sym, alike-trans, stored-layout, stored-scaling, stored-span, stored-points}
 use Rattle.parameters.specs.Valid.{Valid}
 use Rattle.parameters.specs.ValidLaws.{loads, valid-loads}
-use Rattle.reading.specs.AlikeLaws.{basis-alike, reading-alike}
+use Rattle.reading.specs.AlikeLaws.{plain-alike, reading-alike}
 use Rattle.reading.specs.Reading.{acceptsOf, directedAt, basisOf, measuredAt, readingOf, noHalves}
-use Rattle.settings.specs.AlikeLaws.{layout-alike, direction-alike, mode-alike, used-alike, points-alike}
+use Rattle.settings.specs.AlikeLaws.{layout-alike, direction-alike, loop-alike, mode-alike, used-alike, points-alike}
 use Rattle.settings.specs.Settings.{scalingOf, pointsOf}
 use Rattle.settings.specs.SettingsLaws.{points-ordered, point-y}
 use Rattle.state.specs.declared.State.{State}
@@ -48,7 +47,7 @@ use Rattle.state.specs.Valid.{Good}
 use Rattle.state.specs.ValidLaws.{good-fresh}
 use Rattle.panel.specs.Step.{answerOf}
 use Rattle.runs.specs.Book.{Book, freshBook, takes, resets, bookInput, bookStep, bookFrom, bookOf}
-use Rattle.runs.specs.BookLaws.{Matches, book-run, book-fresh}
+use Rattle.runs.specs.BookLaws.{Matches, book-run, book-fresh, plain-run}
 use Rattle.runs.specs.Demand3Laws.{good-run, kept-run}
 use Rattle.runs.specs.KeptLaws.{Kept, kept-fresh}
 use Rattle.runs.specs.Run.{runOf, unasked, lastAnswer}
@@ -161,14 +160,15 @@ module _ {s t : List ℤ} (a : Alike storedSlot s t) (valid : Valid s) (f : Forw
       record {
         loads = valid-loads valid;
         forward = direction-alike a stored-scaling ∙ f .forward;
-        no-loop = ap P (a .same _ refl) ∙ f .no-loop;
+        no-loop = loop-alike a stored-scaling ∙ f .no-loop;
         never-falls = falls-alike ∙ f .never-falls;
       }
 
 -- ---- of runs
 
--- what a run last answered is the reading of the book's telegram, under any table that has the book's offset and is else the loaded one but for preselections
-module _ {t : List ℤ} (v : Valid t) (es : List Event) where
+-- what a run without a round loop last answered is the reading of the book's telegram, under any table that has the book's offset and is else the loaded one but
+-- for preselections
+module _ {t : List ℤ} (v : Valid t) (none : slot.roundLoop t ≡ 0) (es : List Event) where
   abbrev end : State
   end = runOf (freshOf t) es
 
@@ -187,7 +187,7 @@ module _ {t : List ℤ} (v : Valid t) (es : List Event) where
         kept-end .read (subst T (sym (matches-end .seen)) y)
         ∙ reading-alike (alike-trans (kept-end .alike) (alike-sym a)) stored-scaling (good-end .table .long ∙ sym (valid .long)) stored-points
         (matches-end .offset ∙ sym same) stored-span (end .live .basis)
-        ∙ ap (readingOf s) (matches-end .basis y ∙ sym (basis-alike a stored-layout stored-scaling (bookOf t es .telegram)))
+        ∙ ap (readingOf s) (matches-end .basis ∙ plain-run t none (freshBook t) es (λ n. absurd n) y ∙ sym (plain-alike a stored-layout stored-scaling (bookOf t es .telegram)))
 
     last-reading : (lastAnswer t es .result ≡ readingAt s (bookOf t es .telegram) .result) × (lastAnswer t es .error ≡ readingAt s (bookOf t es .telegram) .error)
     unfolding answerOf
@@ -198,8 +198,8 @@ module _ {t : List ℤ} (v : Valid t) (es : List Event) where
 -- both are read under the table in force at the end of the first
 pub runs : ForwardRuns
 runs t f es es′ y y′ same h k k′ =
-    let first = last-reading v es y valid alike (matches-end v es .offset) in
-    let second = last-reading v es′ y′ valid alike (matches-end v es .offset ∙ same) in
+    let first = last-reading v none es y valid alike (matches-end v none es .offset) in
+    let second = last-reading v none es′ y′ valid alike (matches-end v none es .offset ∙ same) in
     rw (first .0, second .0)
     (readings s (forward-alike alike valid f) (bookOf t es .telegram) (bookOf t es′ .telegram)
     (rw (layout-alike alike stored-layout) h) (sym (first .1) ∙ k) (sym (second .1) ∙ k′))
@@ -207,14 +207,17 @@ runs t f es es′ y y′ same h k k′ =
     v : Valid t
     v = loads t (f .loads)
 
+    none : slot.roundLoop t ≡ 0
+    none = f .no-loop
+
     s : List ℤ
     s = runOf (freshOf t) es .table
 
     valid : Valid s
-    valid = good-end v es .table
+    valid = good-end v none es .table
 
     alike : Alike storedSlot s t
-    alike = kept-end v es .alike
+    alike = kept-end v none es .alike
 
 -- ---- of two telegrams: between resets the book keeps its offset
 
@@ -224,7 +227,7 @@ inputs-still t l b none = rw (none 0 (omega arith), none 1 (omega arith), none 2
 
 step-still : (t : List ℤ) (b : Book) (e : Event) → resetBy t b e ≡ false → bookStep t b e .offset ≡ b .offset
 unfolding resetBy bookStep
-step-still t b (Telegram w) n = by-test (acceptsOf t w) (takes b w) b (λ (x : Book). x .offset ≡ b .offset) (λ _. refl) (λ _. refl)
+step-still t b (Telegram w) n = by-test (acceptsOf t w) (takes t b w) b (λ (x : Book). x .offset ≡ b .offset) (λ _. refl) (λ _. refl)
 step-still t b (Levels l) n =
     by-test (leb l 7) _ b (λ (x : Book). x .offset ≡ b .offset)
     (λ y. rw (inputs-still t l b (λ i h. some-none (resets t b l) _ i (and-second (leb l 7) _ n (is-true (leb l 7) y)) h))) (λ _. refl)
@@ -243,7 +246,7 @@ book-append t b [] fs = refl
 book-append t b (e ∷ es) fs = book-append t (bookStep t b e) es fs
 
 -- the book has the telegram that comes last
-book-telegram : (t : List ℤ) (b : Book) (es : List Event) (w : ℕ) → T (acceptsOf t w) → bookFrom t b (followedBy es w) ≡ takes (bookFrom t b es) w
+book-telegram : (t : List ℤ) (b : Book) (es : List Event) (w : ℕ) → T (acceptsOf t w) → bookFrom t b (followedBy es w) ≡ takes t (bookFrom t b es) w
 unfolding bookFrom bookStep
 book-telegram t b es w y = rw (book-append t b es (Telegram w ∷ []), is-true (acceptsOf t w) y)
 
@@ -254,8 +257,8 @@ telegrams t f es between w w′ y y′ none h =
     so-far : List Event
     so-far = followedBy es w
 
-    first : bookOf t so-far ≡ takes (bookOf t es) w
+    first : bookOf t so-far ≡ takes t (bookOf t es) w
     first = book-telegram t (freshBook t) es w y
 
-    second : bookOf t (followedBy (so-far ++ between) w′) ≡ takes (bookFrom t (bookOf t so-far) between) w′
-    second = book-telegram t (freshBook t) (so-far ++ between) w′ y′ ∙ ap (λ (b : Book). takes b w′) (book-append t (freshBook t) so-far between)
+    second : bookOf t (followedBy (so-far ++ between) w′) ≡ takes t (bookFrom t (bookOf t so-far) between) w′
+    second = book-telegram t (freshBook t) (so-far ++ between) w′ y′ ∙ ap (λ (b : Book). takes t b w′) (book-append t (freshBook t) so-far between)

@@ -15,6 +15,7 @@ use Rattle.measurement.specs.Measure as measure
 use Rattle.panel.specs.declared.Answer.{Answer}
 use Rattle.panel.specs.Step as step
 use Rattle.parameters.specs.Rows as row
+use Rattle.reading.specs.Follow as follow
 use Rattle.reading.specs.Reading as reading
 use Rattle.reading.specs.Reading.{halves}
 use Rattle.settings.specs.Settings as settings
@@ -100,5 +101,5 @@ expected [] = []
 expected (c ∷ cs) = c .should ∷ expected cs
 
 pub checked : given cases ≡ expected cases
-unfolding cases state.freshOf step.stepOf step.onTelegram step.answerOf step.displayedOf step.switchedOf state.receivedOf state.rereadOf reading.acceptsOf reading.directedAt reading.basisOf reading.measuredAt reading.measurementAt reading.codeAt reading.codedAt reading.readingOf reading.marksOf reading.halvesOf settings.layoutOf settings.scalingOf settings.pointsOf settings.spanOf ssi.accepted ssi.errorReported ssi.positionOf measure.directedOf measure.distanceOf measure.scaledOf measure.scaledBy measure.judgedOf measure.usedPoints measure.valueOf measure.measuredOf measure.scalingHalf measure.lineHalf measure.measurementOf curve.pointsFrom curve.rightOf curve.fourQuadrants curve.curve curve.linearizedOf curve.linearizedBy roundDiv halved rounding roundUp analog.codeOf analog.codeHalf analog.codedOf analog.held other.scaledUp other.linearizedUp other.valueUp other.measuredUp other.codeUp row.defaultTable row.defaultsFrom row.rowAt row.rowOf
+unfolding cases state.freshOf step.stepOf step.onTelegram step.answerOf step.displayedOf step.switchedOf state.receivedOf state.rereadOf reading.acceptsOf reading.directedAt reading.basisOf follow.basisAfter reading.measuredAt reading.measurementAt reading.codeAt reading.codedAt reading.readingOf reading.marksOf reading.halvesOf settings.layoutOf settings.scalingOf settings.pointsOf settings.spanOf ssi.accepted ssi.errorReported ssi.positionOf measure.directedOf measure.distanceOf measure.scaledOf measure.scaledBy measure.judgedOf measure.usedPoints measure.valueOf measure.measuredOf measure.scalingHalf measure.lineHalf measure.measurementOf curve.pointsFrom curve.rightOf curve.fourQuadrants curve.curve curve.linearizedOf curve.linearizedBy roundDiv halved rounding roundUp analog.codeOf analog.codeHalf analog.codedOf analog.held other.scaledUp other.linearizedUp other.valueUp other.measuredUp other.codeUp row.defaultTable row.defaultsFrom row.rowAt row.rowOf
 checked = refl

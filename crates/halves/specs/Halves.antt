@@ -11,7 +11,8 @@ use Rattle.measurement.specs.declared.Error.the-variants as Error
 use Rattle.measurement.specs.Measure.{measured}
 use Rattle.panel.specs.declared.Answer.{Answer}
 use Rattle.panel.specs.Step.{stepOf}
-use Rattle.reading.specs.Reading.{acceptsOf, basisOf, inScaling, inLinearization, inAnalog}
+use Rattle.reading.specs.Follow.{basisAfter}
+use Rattle.reading.specs.Reading.{acceptsOf, inScaling, inLinearization, inAnalog}
 use Rattle.settings.specs.Settings.{spanOf}
 use Rattle.state.specs.declared.State.{State}
 use Rattle.halves.specs.Upward.{measuredUp, codeUp}
@@ -20,7 +21,7 @@ use Rattle.halves.specs.Upward.{measuredUp, codeUp}
 pub record NotTheRounding (s : State) (w : ℕ) (a : Answer) : Type 0 where
   -- neither mark of the digits: the same result, and no error
   pub result : a .error ≡ Error.None → inScaling (a .halves) ≡ false → inLinearization (a .halves) ≡ false →
-      measuredUp (s .table) (basisOf (s .table) w) ≡ measured (a .result) Error.None
+      measuredUp (s .table) (basisAfter (s .table) (s .live .basis) w) ≡ measured (a .result) Error.None
   -- no analog mark: the same code of that result
   pub code : a .error ≡ Error.None → inAnalog (a .halves) ≡ false → codeUp (spanOf (s .table)) (a .result) ≡ a .state .live .reading .code
 

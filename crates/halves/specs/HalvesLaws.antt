@@ -26,7 +26,8 @@ use Rattle.parameters.specs.Slots.{withOffset}
 use Rattle.parameters.specs.StoreLaws.{offset-stored}
 use Rattle.panel.specs.Step.{answerOf, onTelegram, stepOf, switchedOf, displayedOf}
 use Rattle.reading.specs.declared.Basis.{Basis}
-use Rattle.reading.specs.Reading.{acceptsOf, basisOf, measuredAt, measurementAt, codeAt, codedAt, readingOf, halves, inScaling, inLinearization, inAnalog, marksOf, halvesOf}
+use Rattle.reading.specs.Follow.{basisAfter}
+use Rattle.reading.specs.Reading.{acceptsOf, measuredAt, measurementAt, codeAt, codedAt, readingOf, halves, inScaling, inLinearization, inAnalog, marksOf, halvesOf}
 use Rattle.settings.specs.declared.Span.{Span}
 use Rattle.settings.specs.Settings.{scalingOf, pointsOf, spanOf}
 use Rattle.state.specs.declared.State.{State}
@@ -67,17 +68,17 @@ read-back false false true = (refl, (refl, refl))
 read-back false false false = (refl, (refl, refl))
 
 marks-are : (t : List ℤ) (b : Basis) → measuredAt t b .error ≡ Error.None →
-    (inScaling (halvesOf t b) ≡ scalingHalf (scalingOf t) (b .directed)) × ((inLinearization (halvesOf t b) ≡ lineHalf (scalingOf t) (pointsOf t) (b .directed)) ×
+    (inScaling (halvesOf t b) ≡ scalingHalf (scalingOf t) (b .start)) × ((inLinearization (halvesOf t b) ≡ lineHalf (scalingOf t) (pointsOf t) (b .start)) ×
     (inAnalog (halvesOf t b) ≡ codeHalf (spanOf t .format) (spanOf t .start) (spanOf t .end) (measuredAt t b .result)))
 unfolding halvesOf marksOf measurementAt measurementOf measuredAt codedAt codedOf
-marks-are t b e = rw e (read-back (scalingHalf (scalingOf t) (b .directed)) (lineHalf (scalingOf t) (pointsOf t) (b .directed)) _)
+marks-are t b e = rw e (read-back (scalingHalf (scalingOf t) (b .start)) (lineHalf (scalingOf t) (pointsOf t) (b .start)) _)
 
 measured-same : (t : List ℤ) (b : Basis) → measuredAt t b .error ≡ Error.None → inScaling (halvesOf t b) ≡ false → inLinearization (halvesOf t b) ≡ false →
     measuredUp t b ≡ measuredAt t b
 unfolding measuredUp measuredAt measuredOf
 measured-same t b e x y =
     let m = marks-are t b e in
-    ap (judgedOf (b .reported)) (value-same (scalingOf t) (pointsOf t) (b .directed) (sym (m .0) ∙ x) (sym (m .1 .0) ∙ y))
+    ap (judgedOf (b .reported)) (value-same (scalingOf t) (pointsOf t) (b .start) (sym (m .0) ∙ x) (sym (m .1 .0) ∙ y))
 
 -- ---- the answer to a telegram
 
@@ -92,7 +93,7 @@ told s w t =
     })
   where
     b : Basis
-    b = basisOf (s .table) w
+    b = basisAfter (s .table) (s .live .basis) w
 
 -- ---- a reset carried out: d is 0, so scaling has no mark
 
@@ -114,6 +115,6 @@ marks-unscaled x analog e =
 pub reset-unscaled : (s : State) → Good s → inScaling (halvesIn (resetOf s)) ≡ false
 unfolding resetOf rereadOf halvesOf measurementAt measurementOf scalingOf
 reset-unscaled s g =
-    let p = s .live .basis .directed in
+    let p = s .live .basis .start in
     let t = withOffset (s .table) (pos p) in
     marks-unscaled (measurementAt t (s .live .basis)) _ (unscaled (scalingOf t) p (offset-stored (pos p) (g .table)))

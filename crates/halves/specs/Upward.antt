@@ -27,7 +27,7 @@ valueUp s ws p = linearizedUp (s .linearization) (usedPoints s ws) (scaledUp (di
 
 -- its result and error of what a result starts from, under a table
 unfoldable pub measuredUp : List ℤ → Basis → Measured
-measuredUp t b = judgedOf (b .reported) (valueUp (scalingOf t) (pointsOf t) (b .directed))
+measuredUp t b = judgedOf (b .reported) (valueUp (scalingOf t) (pointsOf t) (b .start))
 
 -- the analog code of a result rounded halves upward
 unfoldable pub codeUp : Span → ℤ → ℤ

@@ -1,5 +1,5 @@
 -- Every state that a command leaves is good: its table is valid, and its result is from −Z to Z.
--- A reset stores a position up to Z, a teach stores the result, and nothing else writes the table. Paper 01, "Events and inputs".
+-- A reset stores a start up to Z, a teach stores the result, and nothing else writes the table. Paper 01, "Events and inputs".
 -- First the cases of a command and an input, as laws for any claim about the state they leave; last, the inputs one by one.
 use mathlib.Core.Path.{_≡_, refl}
 use mathlib.Core.Bool.{Bool, true, false, cond, not, _&&_, _||_}
@@ -27,19 +27,19 @@ use Rattle.inputs.specs.Levels.{edgeAt, inputOf, commandsOf, marksAt, ma
 
 -- ---- the cases
 
--- a reset that is not refused has a position up to Z
-pub reset-fits : (seen : Bool) (error directed : ℕ) → resetRefusal seen error directed ≡ 0 → directed ≤ Z
+-- a reset that is not refused starts from a number up to Z
+pub reset-fits : (seen : Bool) (error start : ℕ) → resetRefusal seen error start ≡ 0 → start ≤ Z
 unfolding resetRefusal
-reset-fits seen error directed =
+reset-fits seen error start =
     by-test (not seen || eqb error 3) 13 _ Q (λ _ e. absurd (omega arith))
-    (λ _. by-test (ltb Z directed) 12 0 Q (λ _ e. absurd (omega arith)) (λ n _. ltb-false Z directed (is-false (ltb Z directed) n)))
+    (λ _. by-test (ltb Z start) 12 0 Q (λ _ e. absurd (omega arith)) (λ n _. ltb-false Z start (is-false (ltb Z start) n)))
   where
     Q : ℕ → Type 0
-    Q n = n ≡ 0 → directed ≤ Z
+    Q n = n ≡ 0 → start ≤ Z
 
-pub reset-allowed : (s : State) → refusalOf Reset s ≡ 0 → s .live .basis .directed ≤ Z
+pub reset-allowed : (s : State) → refusalOf Reset s ≡ 0 → s .live .basis .start ≤ Z
 unfolding refusalOf
-reset-allowed s e = reset-fits (s .live .seen) (errorOf s) (s .live .basis .directed) e
+reset-allowed s e = reset-fits (s .live .seen) (errorOf s) (s .live .basis .start) e
 
 -- the action of an input teaches one of the four preselections, if any
 pub input-aimed : (t : List ℤ) (i : ℕ) → Aimed (inputAt t i .action)
@@ -49,7 +49,7 @@ input-aimed t i = aimed _
 -- a command leaves the state, or resets, clears, or teaches
 pub by-command : (a : Action) (s : State) → Aimed a → (Q : State → Type 0) →
     Q s →
-    (T (isReset a) → s .live .basis .directed ≤ Z → Q (resetOf s)) →
+    (T (isReset a) → s .live .basis .start ≤ Z → Q (resetOf s)) →
     Q (clearLocksOf s) →
     Q (clearExtremesOf s) →
     ((k : ℕ) → k < 4 → T (isTeach a) → T (eqb (refusalOf a s) 0) → Q (teachOf s k)) →
@@ -90,7 +90,7 @@ pub good-command : (a : Action) (s : State) → Aimed a → Good s → Good (com
 unfolding resetOf clearLocksOf clearExtremesOf teachOf
 good-command a s m g =
     by-command a s m Good g
-    (λ _ h. good-reread (withTable s (withOffset (s .table) (pos (s .live .basis .directed)))) (valid-offset (g .table) (record { above = h; below = omega arith })))
+    (λ _ h. good-reread (withTable s (withOffset (s .table) (pos (s .live .basis .start)))) (valid-offset (g .table) (record { above = h; below = omega arith })))
     (record { table = g .table; result = g .result })
     (record { table = g .table; result = g .result })
     (λ k h _ _. record { table = valid-preselection (g .table) (g .result) k h; result = g .result })

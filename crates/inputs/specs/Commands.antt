@@ -30,13 +30,13 @@ acted s n = record { state = s; note = n }
 abbrev pub leftBy : List ℤ → Outcome → Acted
 leftBy t o = acted (stateOf t (o .live)) (o .note)
 
--- 13: reset with no telegram yet or under error 3; then 12: p after direction above Z
+-- 13: reset with no telegram yet or under error 3; then 12: p after direction above Z. K4: the count U never is (`turntable`, no-12)
 unfoldable pub resetRefusal : Bool → ℕ → ℕ → ℕ
-resetRefusal seen error directed = cond (not seen || eqb error 3) 13 (cond (ltb Z directed) 12 0)
+resetRefusal seen error start = cond (not seen || eqb error 3) 13 (cond (ltb Z start) 12 0)
 
--- 1, reset: O becomes p after direction, and the result is worked out again at once
+-- 1, reset: O becomes p after direction, with a round loop the count U (K4), and the result is worked out again at once
 unfoldable pub resetOf : State → State
-resetOf s = rereadOf (withTable s (withOffset (s .table) (pos (s .live .basis .directed))))
+resetOf s = rereadOf (withTable s (withOffset (s .table) (pos (s .live .basis .start))))
 
 -- 3, clear locks
 abbrev pub locksCleared : Live → Live
@@ -66,7 +66,7 @@ teachOf s k = withTable s (withPreselection (s .table) k (s .live .reading .resu
 -- the refusal of an action, 0 where it is carried out
 unfoldable pub refusalOf : Action → State → ℕ
 refusalOf None s = 0
-refusalOf Reset s = resetRefusal (s .live .seen) (errorOf s) (s .live .basis .directed)
+refusalOf Reset s = resetRefusal (s .live .seen) (errorOf s) (s .live .basis .start)
 refusalOf Freeze s = 0
 refusalOf ClearLocks s = 0
 refusalOf ClearExtremes s = 0

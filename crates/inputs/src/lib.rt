@@ -18,13 +18,13 @@ ghost use Rattle.inputs.specs.Levels.{highAt, onRise, actsOn, edgeIn, fi
 ghost use Rattle.inputs.specs.Freeze.{lasts, freezes, frozen};
 
 // Why a reset is refused: 13 before 12, or 0.
-fn reset_refusal(seen: bool, error: u32, directed: u32) -> u8
-    ensures { λ r. ⌜ r ≡ resetRefusal seen error directed ⌝ }
+fn reset_refusal(seen: bool, error: u32, start: u32) -> u8
+    ensures { λ r. ⌜ r ≡ resetRefusal seen error start ⌝ }
 {
     if !seen | (error == 3) {
         return 13;
     }
-    if (integers::Z as u32) < directed {
+    if (integers::Z as u32) < start {
         return 12;
     }
     0
@@ -40,14 +40,14 @@ fn teach_refusal(seen: bool, error: u32) -> u8
     13
 }
 
-// Reset: the offset becomes the position after direction.
+// Reset: the offset becomes what the result starts from.
 fn reset(t: &mut [i32; 104], l: Live) -> Outcome
-    requires { ⌜ Valid (now t) × (l .basis .directed ≤ Z) ⌝ }
+    requires { ⌜ Valid (now t) × (l .basis .start ≤ Z) ⌝ }
     ensures is { λ r. ⌜ leftBy (now (t .exit)) r ≡ acted (resetOf (stateOf (now (t .entry)) l)) 0 ⌝ }
     ensures marks { λ r. ⌜ r .halves ≡ halvesIn (resetOf (stateOf (now (t .entry)) l)) ⌝ }
 {
     let b = l.basis;
-    parameters::store_offset(t, b.directed as i32);
+    parameters::store_offset(t, b.start as i32);
     let m = reading::read(t, b);
     let r = m.reading;
     let live = state::reread(l, r);
@@ -111,7 +111,7 @@ fn refusal(a: Action, t: &[i32; 104], l: Live) -> u8
     let b = l.basis;
     match a {
         Action::None => 0,
-        Action::Reset => reset_refusal(l.seen, error, b.directed),
+        Action::Reset => reset_refusal(l.seen, error, b.start),
         Action::Freeze => 0,
         Action::ClearLocks => 0,
         Action::ClearExtremes => 0,

@@ -118,7 +118,8 @@ fn on_telegram(t: &[i32; 104], l: Live, telegram: u32) -> Begun
     if !reading::accepts(t, telegram) {
         return refused(l, 11);
     }
-    let b = reading::basis_of(t, telegram);
+    let was = l.basis;
+    let b = reading::basis_after(t, was, telegram);
     let m = reading::read(t, b);
     let r = m.reading;
     let next = state::received(l, b, r);

@@ -1,4 +1,4 @@
--- Tables alike outside some slots read alike where these miss the settings of a reading: a telegram gives the same basis, and with the same offset a basis gives
+-- Tables alike outside some slots read alike where these miss the settings of a reading: behind the same basis a telegram gives the same basis, and with the same offset a basis gives
 -- the same reading and the same curve.
 use mathlib.Core.Path.{_≡_}
 use mathlib.Core.Bool.{Bool, true}
@@ -9,9 +9,10 @@ use lib.ListN.{length}
 use Rattle.measurement.specs.Measure.{usedPoints}
 use Rattle.parameters.specs.Slots.{layoutSlots, scalingSlots, spanSlots, firstPointSlot, offset}
 use Rattle.parameters.specs.Alike.{Alike, misses, MissesFrom}
-use Rattle.settings.specs.AlikeLaws.{layout-alike, direction-alike, mode-alike, used-alike, scaling-alike, points-alike, span-alike}
+use Rattle.settings.specs.AlikeLaws.{layout-alike, direction-alike, loop-alike, mode-alike, used-alike, scaling-alike, points-alike, span-alike}
 use Rattle.settings.specs.Settings.{scalingOf}
 use Rattle.reading.specs.declared.Basis.{Basis}
+use Rattle.reading.specs.Follow.{basisAfter}
 use Rattle.reading.specs.Reading.{acceptsOf, directedAt, basisOf, measuredAt, measurementAt, readingOf, halvesOf, curveFrom, slopeAt}
 
 module _ {touched : ℕ → Bool} {s t : List ℤ} (a : Alike touched s t) (layout : misses touched layoutSlots ≡ true) where
@@ -24,9 +25,14 @@ module _ {touched : ℕ → Bool} {s t : List ℤ} (a : Alike touched s t) (layo
     unfolding directedAt
     directed-alike w = rw (layout-alike a layout, direction-alike a scaling)
 
-    pub basis-alike : (w : ℕ) → basisOf s w ≡ basisOf t w
+    -- by itself, without a round loop
+    pub plain-alike : (w : ℕ) → basisOf s w ≡ basisOf t w
     unfolding basisOf
-    basis-alike w = rw (directed-alike w, layout-alike a layout)
+    plain-alike w = rw (directed-alike w, layout-alike a layout)
+
+    pub basis-alike : (b : Basis) (w : ℕ) → basisAfter s b w ≡ basisAfter t b w
+    unfolding basisAfter
+    basis-alike b w = rw (plain-alike w, directed-alike w, layout-alike a layout, loop-alike a scaling)
 
 module _ {touched : ℕ → Bool} {s t : List ℤ} (a : Alike touched s t) (scaling : misses touched scalingSlots ≡ true)
     (long : length s ≡ length t) (points : MissesFrom touched firstPointSlot) where

@@ -1,4 +1,6 @@
 -- The modules of this crate's definitions and laws, in the order in which to read them.
 pub mod Reading
+pub mod Follow
 pub mod ReadingLaws
+pub mod FollowLaws
 pub mod AlikeLaws

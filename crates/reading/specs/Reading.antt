@@ -1,7 +1,7 @@
 -- One reading under a table: a telegram gives the position after direction and whether its error bit reports; these become a result or an error, and the result drives
--- the analog line.
+-- the analog line. While a round loop is set the count U stands in the position's place (Follow).
 -- Paper 01, "From telegram to result" and "Analog value", held together; paper 02, K7, the marks beside a reading. Assumes nothing.
-use mathlib.Core.Bool.{Bool, cond}
+use mathlib.Core.Bool.{Bool, false, cond}
 use mathlib.Core.List.{List}
 use Prim.Native.Nat.{ℕ, _+_, _/_, _%_}
 use lib.Dec.{eqb}
@@ -32,17 +32,17 @@ acceptsOf t w = accepted (layoutOf t) w
 unfoldable pub directedAt : List ℤ → ℕ → ℕ
 directedAt t w = directedOf (direction t) (widthOf (layoutOf t)) (positionOf (layoutOf t) w)
 
--- what a telegram's result starts from
+-- what a telegram's result starts from without a round loop: p after direction, and nothing is counted
 unfoldable pub basisOf : List ℤ → ℕ → Basis
-basisOf t w = record { directed = directedAt t w; reported = errorReported (layoutOf t) w }
+basisOf t w = record { start = directedAt t w; place = 0; reported = errorReported (layoutOf t) w; counted = false }
 
 -- steps 2 to 5: the result and the error
 unfoldable pub measuredAt : List ℤ → Basis → Measured
-measuredAt t b = measuredOf (scalingOf t) (pointsOf t) (b .directed) (b .reported)
+measuredAt t b = measuredOf (scalingOf t) (pointsOf t) (b .start) (b .reported)
 
 -- the same with the marks of scaling and linearization
 unfoldable pub measurementAt : List ℤ → Basis → Measurement
-measurementAt t b = measurementOf (scalingOf t) (pointsOf t) (b .directed) (b .reported)
+measurementAt t b = measurementOf (scalingOf t) (pointsOf t) (b .start) (b .reported)
 
 -- the code of the result in the format and between the ends of a span, and the same with its mark
 unfoldable pub codeAt : Span → Measured → ℤ
@@ -99,12 +99,9 @@ markedOf t b = record { reading = readingOf t b; halves = halvesOf t b }
 
 -- ---- the curve
 
--- L(E) of a position after direction, and of a telegram; and S
+-- L(E) of what a result starts from; and S
 unfoldable pub curveFrom : List ℤ → ℕ → Frac
 curveFrom t p = exactCurve (scalingOf t) (pointsOf t) p
-
-unfoldable pub curveAt : List ℤ → ℕ → Frac
-curveAt t w = curveFrom t (directedAt t w)
 
 unfoldable pub slopeAt : List ℤ → Ratio
 slopeAt t = steepest (linearization t) (usedPoints (scalingOf t) (pointsOf t))

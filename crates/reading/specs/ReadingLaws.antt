@@ -25,9 +25,9 @@ use Rattle.settings.specs.SettingsLaws.{scaling-sound, points-ordered}
 use Rattle.reading.specs.declared.Basis.{Basis}
 use Rattle.reading.specs.Reading.{measuredAt, readingOf, curveFrom, slopeAt}
 
-pub accurate : {t : List ℤ} → Valid t → (b : Basis) → readingOf t b .error ≡ Error.None → Accurate (readingOf t b .result) (curveFrom t (b .directed)) (slopeAt t)
+pub accurate : {t : List ℤ} → Valid t → (b : Basis) → readingOf t b .error ≡ Error.None → Accurate (readingOf t b .result) (curveFrom t (b .start)) (slopeAt t)
 unfolding readingOf measuredAt curveFrom slopeAt scalingOf
-accurate {t} v b e = reading-accurate (scalingOf t) (pointsOf t) (b .directed) (b .reported) (scaling-sound v .divider) (points-ordered v) e
+accurate {t} v b e = reading-accurate (scalingOf t) (pointsOf t) (b .start) (b .reported) (scaling-sound v .divider) (points-ordered v) e
 
 judged-within : (b : Bool) (z : ℤ) → Within Z (judgedOf b z .result)
 unfolding judgedOf
@@ -45,7 +45,7 @@ judged-within b z =
 
 pub result-within : (t : List ℤ) (b : Basis) → Within Z (readingOf t b .result)
 unfolding readingOf measuredAt measuredOf
-result-within t b = judged-within (b .reported) (valueOf (scalingOf t) (pointsOf t) (b .directed))
+result-within t b = judged-within (b .reported) (valueOf (scalingOf t) (pointsOf t) (b .start))
 
 -- ---- under an error the result is 0, and error 3 is in force exactly where the error bit reports
 
@@ -64,7 +64,7 @@ judged-zeroed b v =
 
 pub reading-zeroed : (t : List ℤ) (b : Basis) → Zeroed (readingOf t b .result) (errorNumber (readingOf t b .error))
 unfolding readingOf measuredAt measuredOf
-reading-zeroed t b = judged-zeroed (b .reported) (valueOf (scalingOf t) (pointsOf t) (b .directed))
+reading-zeroed t b = judged-zeroed (b .reported) (valueOf (scalingOf t) (pointsOf t) (b .start))
 
 judged-bit : (b : Bool) (v : ℤ) → eqb (errorNumber (judgedOf b v .error)) 3 ≡ b
 unfolding judgedOf
@@ -78,4 +78,4 @@ judged-bit false v =
 
 pub reading-bit : (t : List ℤ) (b : Basis) → eqb (errorNumber (readingOf t b .error)) 3 ≡ b .reported
 unfolding readingOf measuredAt measuredOf
-reading-bit t b = judged-bit (b .reported) (valueOf (scalingOf t) (pointsOf t) (b .directed))
+reading-bit t b = judged-bit (b .reported) (valueOf (scalingOf t) (pointsOf t) (b .start))

@@ -1,8 +1,10 @@
 // One reading: a telegram gives what a result starts from, and that gives the result, the error, the analog code, the drive, and where a half decided.
-// Uses `settings` for the table, and `ssi`, `measurement` and `analog`, which it hands the settings to.
+// Uses `settings` for the table, and `ssi`, `roundloop`, `measurement` and `analog`, which it hands the settings to.
 ghost use mathlib.Core.Path.{_≡_};
 ghost use Rattle.parameters.specs.Valid.{Valid};
 ghost use Rattle.settings.specs.Settings.{layoutOf};
+ghost use Prim.Native.Nat.{_≤_, _^_};
+ghost use Rattle.reading.specs.Follow.{countAfter, heldOf, basisAfter};
 ghost use Rattle.reading.specs.Reading.{acceptsOf, directedAt, basisOf, measurementAt, codeAt, codedAt, driveAt, mark, marksOf, markedOf};
 use analog::Coded;
 use analog::Drive;
@@ -14,10 +16,14 @@ use ssi::Layout;
 
 // What a result starts from.
 pub struct Basis {
-    // The position after direction.
-    pub directed: u32,
+    // What the offset is subtracted from: the position after direction, with a round loop the count.
+    pub start: u32,
+    // The position after direction that the count was last counted from.
+    pub place: u32,
     // Whether the telegram's error bit stands at its error level.
     pub reported: bool,
+    // Whether there is a count.
+    pub counted: bool,
 }
 
 // What a telegram reads as.
@@ -55,15 +61,58 @@ fn directed(t: &[i32; 104], l: Layout, telegram: u32) -> u32
     measurement::directed(settings::direction(t), ssi::width(l), p)
 }
 
-// What a telegram's result starts from.
-pub fn basis_of(t: &[i32; 104], telegram: u32) -> Basis
-    requires { ⌜ Valid (now t) ⌝ }
+// What a telegram's result starts from without a round loop.
+fn basis_of(t: &[i32; 104], l: Layout, telegram: u32) -> Basis
+    requires { ⌜ Valid (now t) × (l ≡ layoutOf (now t)) ⌝ }
     ensures { λ r. ⌜ r ≡ basisOf (now (t .entry)) telegram ⌝ }
 {
-    let l = settings::layout(t);
     Basis {
-        directed: directed(t, l, telegram),
+        start: directed(t, l, telegram),
+        place: 0,
         reported: ssi::error_reported(l, telegram),
+        counted: false,
+    }
+}
+
+// With a round loop, a telegram under error 3: the count stays, and where it was last counted from.
+fn held(b: Basis) -> Basis
+    ensures { λ r. ⌜ r ≡ heldOf b ⌝ }
+{
+    let mut n = b;
+    n.reported = true;
+    n
+}
+
+// The count after one more position.
+fn count_after(r: u32, width: u32, b: Basis, p: u32) -> u32
+    requires { ⌜ (1 ≤ r) × (width ≤ 32) ⌝ }
+    ensures { λ n. ⌜ n ≡ countAfter r (2 ^ width) b p ⌝ }
+{
+    if b.counted {
+        return roundloop::counted(width, r, b.start, b.place, p);
+    }
+    roundloop::first(r, p)
+}
+
+// What the result of an accepted telegram starts from, behind what the one before it left.
+pub fn basis_after(t: &[i32; 104], b: Basis, telegram: u32) -> Basis
+    requires { ⌜ Valid (now t) ⌝ }
+    ensures { λ r. ⌜ r ≡ basisAfter (now (t .entry)) b telegram ⌝ }
+{
+    let l = settings::layout(t);
+    let n = basis_of(t, l, telegram);
+    let r = settings::round_loop(t);
+    if r == 0 {
+        return n;
+    }
+    if n.reported {
+        return held(b);
+    }
+    Basis {
+        start: count_after(r, ssi::width(l), b, n.start),
+        place: n.start,
+        reported: false,
+        counted: true,
     }
 }
 
@@ -75,7 +124,7 @@ fn measured(t: &[i32; 104], b: Basis) -> Measurement
     measurement::measure(
         settings::scaling(t),
         settings::points(t),
-        b.directed,
+        b.start,
         b.reported,
     )
 }

@@ -205,9 +205,9 @@ pub shown-read : (node : ℕ) (s : State) → (node ≡ 0 → ⊥) → servedOf 
 unfolding servedOf requestOf sent wordIn isMapped
 shown-read node s o = rw (read-asked node shownRegister o refl)
 
--- THE TABLE READ IS THE ONE IN FORCE: after a reset the offset's slot is read as p after direction, after a teach the preselection's as the result
+-- THE TABLE READ IS THE ONE IN FORCE: after a reset the offset's slot is read as what the result starts from, after a teach the preselection's as the result
 pub reset-read : (node : ℕ) (s : State) → (node ≡ 0 → ⊥) → Valid (s .table) →
-    servedOf node (resetOf s) (readFrame node (2 * offsetSlot)) .reply ≡ packed (readReply node (pos (s .live .basis .directed)))
+    servedOf node (resetOf s) (readFrame node (2 * offsetSlot)) .reply ≡ packed (readReply node (pos (s .live .basis .start)))
 unfolding resetOf rereadOf
 reset-read node s o v =
     ap Served.reply (slot-read node (resetOf s) offsetSlot (omega arith) o) ∙ ap (λ (y : ℤ). packed (readReply node y)) (offset-stored _ v)

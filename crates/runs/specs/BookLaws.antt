@@ -10,10 +10,12 @@ use lib.IntN.{ℤ, pos}
 use Rattle.events.specs.declared.Event.{Event}
 use Rattle.events.specs.declared.Event.the-variants.{Telegram, Levels, Tick}
 use Rattle.integers.specs.ChoiceLaws.{by-test, is-true, is-false}
-use Rattle.parameters.specs.Slots.{offsetSlot, preselectionSlot, offset}
+use Rattle.parameters.specs.Slots.{offsetSlot, preselectionSlot, offset, roundLoop}
 use Rattle.parameters.specs.StoreLaws.{word-kept, offset-stored, stored-layout, stored-scaling, stored-input}
 use Rattle.reading.specs.declared.Basis.{Basis}
-use Rattle.reading.specs.Reading.{acceptsOf, directedAt, basisOf}
+use Rattle.reading.specs.Follow.{basisAfter}
+use Rattle.reading.specs.FollowLaws.{unfollowed, after-reported}
+use Rattle.reading.specs.Reading.{acceptsOf, basisOf}
 use Rattle.reading.specs.ReadingLaws.{reading-bit}
 use Rattle.reading.specs.AlikeLaws.{accepts-alike, basis-alike}
 use Rattle.settings.specs.declared.Action.{Action}
@@ -31,14 +33,15 @@ use Rattle.panel.specs.declared.Answer.{Answer}
 use Rattle.panel.specs.Step.{answerOf, switchedOf, displayedOf, onTelegram, onLevels, onTick, stepOf}
 use Rattle.panel.specs.ValidLaws.{good-step}
 use Rattle.runs.specs.Run.{runOf}
-use Rattle.runs.specs.Book.{Book, freshBook, movesTo, asksReset, bookRefusal, bookInput, bookStep, bookFrom}
+use Rattle.runs.specs.Book.{Book, freshBook, takes, turnsTo, movesTo, resets, asksReset, bookRefusal, bookInput, bookStep, bookFrom}
 use Rattle.runs.specs.KeptLaws.{Kept, kept-input, kept-step}
 
--- the state says what the book says; its result starts from the book's telegram, once there is one
+-- the state says what the book says; its result starts from what the book has, and error 3 is the book's telegram's, once there is one
 pub record Matches (t : List ℤ) (s : State) (b : Book) : Type 0 where
   pub levels : s .live .levels ≡ b .levels
   pub seen : s .live .seen ≡ b .seen
-  pub basis : T (b .seen) → s .live .basis ≡ basisOf t (b .telegram)
+  pub basis : s .live .basis ≡ b .basis
+  pub reported : T (b .seen) → b .basis .reported ≡ errorReported (layoutOf t) (b .telegram)
   pub offset : offset (s .table) ≡ b .offset
 
 -- two choices by one test
@@ -49,65 +52,55 @@ both t f false x y u v p q = q tt
 
 -- ---- a reset is refused in the state exactly where it is in the book
 
--- 13 and 12 look at the error only to see whether it is 3, and at error and position only once there is a telegram
-refusal-by : (seen reported : Bool) (error directed place : ℕ) → (T seen → eqb error 3 ≡ reported) → (T seen → directed ≡ place) →
-    resetRefusal seen error directed ≡ resetRefusal seen (cond reported 3 0) place
+-- 13 looks at the error only to see whether it is 3, and only once there is a telegram
+refusal-by : (seen reported : Bool) (error start : ℕ) → (T seen → eqb error 3 ≡ reported) → resetRefusal seen error start ≡ resetRefusal seen (cond reported 3 0) start
 unfolding resetRefusal
-refusal-by false reported error directed place f g = refl
-refusal-by true true error directed place f g = rw (f tt)
-refusal-by true false error directed place f g = rw (f tt, g tt)
-
--- one that is not refused has a telegram
-refusal-seen : (seen : Bool) (error directed : ℕ) → T (eqb (resetRefusal seen error directed) 0) → T seen
-unfolding resetRefusal
-refusal-seen false error directed e = e
-refusal-seen true error directed e = tt
+refusal-by false reported error start f = refl
+refusal-by true true error start f = rw (f tt)
+refusal-by true false error start f = rw (f tt)
 
 module _ {t : List ℤ} {s : State} {b : Book} (k : Kept t s) (m : Matches t s b) where
-  refusal-same : resetRefusal (s .live .seen) (errorOf s) (s .live .basis .directed) ≡ bookRefusal t b
-  unfolding bookRefusal basisOf
+  refusal-same : resetRefusal (s .live .seen) (errorOf s) (s .live .basis .start) ≡ bookRefusal t b
+  unfolding bookRefusal
   refusal-same =
-      rw (m .seen)
-      (refusal-by (b .seen) (errorReported (layoutOf t) (b .telegram)) (errorOf s) (s .live .basis .directed) (directedAt t (b .telegram))
-      (λ y. rw (k .read (subst T (sym (m .seen)) y)) (reading-bit (s .table) (s .live .basis)) ∙ ap (λ (z : Basis). z .reported) (m .basis y))
-      (λ y. ap (λ (z : Basis). z .directed) (m .basis y)))
+      rw (m .seen, ← m .basis)
+      (refusal-by (b .seen) (errorReported (layoutOf t) (b .telegram)) (errorOf s) (s .live .basis .start)
+      (λ y. rw (k .read (subst T (sym (m .seen)) y)) (reading-bit (s .table) (s .live .basis)) ∙ ap (λ (z : Basis). z .reported) (m .basis) ∙ m .reported y))
 
 -- ---- a command
 
 module _ {t : List ℤ} {s : State} {b : Book} (g : Good s) (k : Kept t s) (m : Matches t s b) where
   -- O after a command
   abbrev Moved : Bool → Book
-  Moved resets = cond (resets && eqb (bookRefusal t b) 0) (movesTo b (pos (directedAt t (b .telegram)))) b
+  Moved resets = cond (resets && eqb (bookRefusal t b) 0) (movesTo b (pos (b .basis .start))) b
 
-  book-reset : T (b .seen) → Matches t (resetOf s) (movesTo b (pos (directedAt t (b .telegram))))
-  unfolding resetOf rereadOf basisOf
-  book-reset y =
+  book-reset : Matches t (resetOf s) (movesTo b (pos (b .basis .start)))
+  unfolding resetOf rereadOf
+  book-reset =
       record {
         levels = m .levels;
         seen = m .seen;
         basis = m .basis;
-        offset = offset-stored (pos (s .live .basis .directed)) (g .table) ∙ ap (λ (z : Basis). pos (z .directed)) (m .basis y);
+        reported = m .reported;
+        offset = offset-stored (pos (s .live .basis .start)) (g .table) ∙ ap (λ (z : Basis). pos (z .start)) (m .basis);
       }
-
-  book-seen : T (eqb (bookRefusal t b) 0) → T (b .seen)
-  unfolding bookRefusal
-  book-seen e = refusal-seen (b .seen) _ _ e
 
   book-command : (a : Action) → Matches t (commandOf a s .state) (Moved (isReset a))
   unfolding commandOf carriedOut refusalOf clearLocksOf clearExtremesOf teachOf
   book-command None = m
   book-command Freeze = m
-  book-command ClearLocks = record { levels = m .levels; seen = m .seen; basis = m .basis; offset = m .offset }
-  book-command ClearExtremes = record { levels = m .levels; seen = m .seen; basis = m .basis; offset = m .offset }
+  book-command ClearLocks = record { levels = m .levels; seen = m .seen; basis = m .basis; reported = m .reported; offset = m .offset }
+  book-command ClearExtremes = record { levels = m .levels; seen = m .seen; basis = m .basis; reported = m .reported; offset = m .offset }
   book-command Reset =
       rw (refusal-same k m)
-      (both t (λ (x : Acted). x .state) (eqb (bookRefusal t b) 0) _ _ _ _ (λ e. book-reset (book-seen e)) (λ _. m))
+      (both t (λ (x : Acted). x .state) (eqb (bookRefusal t b) 0) _ _ _ _ (λ _. book-reset) (λ _. m))
   book-command (Teach j) =
       by-test (eqb (refusalOf (Teach j) s) 0) (acted (teachOf s j) 0) (acted s (refusalOf (Teach j) s)) (λ (x : Acted). Matches t (x .state) b)
       (λ _. record {
         levels = m .levels;
         seen = m .seen;
         basis = m .basis;
+        reported = m .reported;
         offset = word-kept (s .table) (preselectionSlot j) (s .live .reading .result) offsetSlot (λ e. omega arith) ∙ m .offset;
       })
       (λ _. m)
@@ -128,7 +121,7 @@ book-input {t} {b} l i h x g k m =
     (λ n. rw (is-false (edgeAt (x .state) l i) n) m))
   where
     Moved-by : Bool → Book
-    Moved-by edge = cond ((edge && isReset (inputAt (x .state .table) i .action)) && eqb (bookRefusal t b) 0) (movesTo b (pos (directedAt t (b .telegram)))) b
+    Moved-by edge = cond ((edge && isReset (inputAt (x .state .table) i .action)) && eqb (bookRefusal t b) 0) (movesTo b (pos (b .basis .start))) b
 
 -- ---- an event
 
@@ -149,11 +142,17 @@ module _ {t : List ℤ} {s : State} {b : Book} (g : Good s) (k : Kept t s) (m : 
   book-step (Telegram w) =
       rw (accepts-alike (k .alike) stored-layout w)
       (both t (λ (a : Answer). a .state) (acceptsOf t w) _ _ _ _
-      (λ _. record { levels = m .levels; seen = refl; basis = λ _. basis-alike (k .alike) stored-layout stored-scaling w; offset = m .offset }) (λ _. m))
+      (λ _. record {
+        levels = m .levels;
+        seen = refl;
+        basis = basis-alike (k .alike) stored-layout stored-scaling (s .live .basis) w ∙ ap (λ (z : Basis). basisAfter t z w) (m .basis);
+        reported = λ _. after-reported t (b .basis) w;
+        offset = m .offset;
+      }) (λ _. m))
   book-step (Levels l) =
       let q = book-commands l in
-      both t (λ (a : Answer). a .state) (leb l 7) _ _ _ _ (λ _. record { levels = refl; seen = q .seen; basis = q .basis; offset = q .offset }) (λ _. m)
-  book-step (Tick ms) = record { levels = m .levels; seen = m .seen; basis = m .basis; offset = m .offset }
+      both t (λ (a : Answer). a .state) (leb l 7) _ _ _ _ (λ _. record { levels = refl; seen = q .seen; basis = q .basis; reported = q .reported; offset = q .offset }) (λ _. m)
+  book-step (Tick ms) = record { levels = m .levels; seen = m .seen; basis = m .basis; reported = m .reported; offset = m .offset }
 
 -- ---- a run
 
@@ -164,4 +163,28 @@ book-run {t} g k m (e ∷ es) = book-run (good-step g e) (kept-step t k e) (book
 
 pub book-fresh : (t : List ℤ) → Matches t (freshOf t) (freshBook t)
 unfolding freshOf
-book-fresh t = record { levels = refl; seen = refl; basis = λ n. absurd n; offset = refl }
+book-fresh t = record { levels = refl; seen = refl; basis = refl; reported = λ n. absurd n; offset = refl }
+
+-- ---- without a round loop E takes p from the last telegram alone
+
+abbrev pub Plain : List ℤ → Book → Type 0
+Plain t b = T (b .seen) → b .basis ≡ basisOf t (b .telegram)
+
+module _ (t : List ℤ) (none : roundLoop t ≡ 0) where
+  plain-input : (l i : ℕ) (b : Book) → Plain t b → Plain t (bookInput t l i b)
+  unfolding bookInput
+  plain-input l i b p = by-test (resets t b l i) (movesTo b (pos (b .basis .start))) b (Plain t) (λ _. p) (λ _. p)
+
+  plain-step : (b : Book) (e : Event) → Plain t b → Plain t (bookStep t b e)
+  unfolding bookStep
+  plain-step b (Telegram w) p = by-test (acceptsOf t w) (takes t b w) b (Plain t) (λ _ _. unfollowed t (b .basis) w none) (λ _. p)
+  plain-step b (Levels l) p =
+      let b₁ = bookInput t l 0 b in
+      let b₂ = bookInput t l 1 b₁ in
+      by-test (leb l 7) (turnsTo (bookInput t l 2 b₂) l) b (Plain t) (λ _. plain-input l 2 b₂ (plain-input l 1 b₁ (plain-input l 0 b p))) (λ _. p)
+  plain-step b (Tick ms) p = p
+
+  pub plain-run : (b : Book) (es : List Event) → Plain t b → Plain t (bookFrom t b es)
+  unfolding bookFrom
+  plain-run b [] p = p
+  plain-run b (e ∷ es) p = plain-run (bookStep t b e) es (plain-step b e p)

@@ -82,7 +82,7 @@ command-stores : (a : Action) (s : State) → Aimed a → T (not (teaches a s)) 
 unfolding teaches resetOf rereadOf clearLocksOf clearExtremesOf
 command-stores a s m n =
     by-command a s m (λ (u : State). preselectionsIn u ≡ preselectionsIn s) refl
-    (λ _ _. offset-preselections (s .table) (pos (s .live .basis .directed))) refl refl
+    (λ _ _. offset-preselections (s .table) (pos (s .live .basis .start))) refl refl
     (λ k h y z. absurd (never (teaches a s) (both (isTeach a) (eqb (refusalOf a s) 0) y z) n))
 
 input-stores : (l i : ℕ) (x : Acted) → T (not (storesAt l i x)) → preselectionsIn (inputOf l i x .state) ≡ preselectionsIn (x .state)

@@ -14,14 +14,14 @@ use Rattle.integers.specs.Fraction.{Frac, Accurate}
 use Rattle.measurement.specs.declared.Error.the-variants as Error
 use Rattle.parameters.specs.Load.{loadRefusal}
 use Rattle.parameters.specs.Slots.{linearization, mode, hysteresis, withOffset}
-use Rattle.reading.specs.Reading.{curveAt, slopeAt}
+use Rattle.reading.specs.Reading.{curveFrom, slopeAt}
 use Rattle.switching.specs.Travel.{travel, changes, hysteretic}
 use Rattle.runs.specs.Run.{lastAnswer, traceOf, stored}
 use Rattle.runs.specs.Book.{Book, bookOf}
 
--- L(E), with p and O from the book
+-- L(E), with p and O from the book; K4, with a round loop U in place of p
 abbrev pub exactAt : List ℤ → Book → Frac
-exactAt t b = curveAt (withOffset t (b .offset)) (b .telegram)
+exactAt t b = curveFrom (withOffset t (b .offset)) (b .basis .start)
 
 pub record Demand3 (t : List ℤ) (es : List Event) : Type 0 where
   -- once there is a telegram and no error is in force, the result last answered lies within 1/2 + S/2 of L(E)

@@ -1,4 +1,4 @@
--- DEMAND 3, proved, for every table that loads and every list of events. Accuracy: the state in the end has the reading of the book's telegram under the loaded
+-- DEMAND 3, proved, for every table that loads and every list of events. Accuracy: the state in the end has the reading of what the book starts from under the loaded
 -- table with the book's offset, and one reading is accurate. Travel: each condition obeys its mode's law from event to event, and such a list meets the bound.
 use mathlib.Core.Path.{_≡_, refl, sym, ap, _∙_, subst}
 use mathlib.Core.Bool.{Bool, false, not}
@@ -12,13 +12,13 @@ use Rattle.integers.specs.Fraction.{Frac, Ratio, Accurate}
 use Rattle.measurement.specs.declared.Error.the-variants as Error
 use Rattle.measurement.specs.Curve.{steepest}
 use Rattle.parameters.specs.Slots.{offsetSlot, offset, linearization, mode, hysteresis, withOffset}
-use Rattle.parameters.specs.StoreLaws.{alike-sym, alike-trans, offset-alike, offset-stored, stored-layout, stored-scaling, stored-points}
+use Rattle.parameters.specs.StoreLaws.{alike-sym, alike-trans, offset-alike, offset-stored, stored-scaling, stored-points}
 use Rattle.parameters.specs.Valid.{Valid}
 use Rattle.parameters.specs.ValidLaws.{loads}
 use Rattle.reading.specs.declared.Basis.{Basis}
 use Rattle.reading.specs.declared.Reading.{Reading}
-use Rattle.reading.specs.AlikeLaws.{directed-alike, slope-alike, curve-alike}
-use Rattle.reading.specs.Reading.{directedAt, basisOf, readingOf, noHalves, curveFrom, curveAt, slopeAt}
+use Rattle.reading.specs.AlikeLaws.{slope-alike, curve-alike}
+use Rattle.reading.specs.Reading.{readingOf, noHalves, curveFrom, slopeAt}
 use Rattle.reading.specs.ReadingLaws as reading
 use Rattle.settings.specs.Settings.{isTeach, preselectionOf, preselectionsOf, inputAt}
 use Rattle.settings.specs.SettingsLaws.{preselection-at}
@@ -55,20 +55,14 @@ kept-run {t} k (e ∷ es) = kept-run (kept-step t k e) es
 
 -- ---- accuracy
 
--- a basis that is a telegram's has its position
-directed-in : (t : List ℤ) (w : ℕ) (b : Basis) → b ≡ basisOf t w → b .directed ≡ directedAt t w
-unfolding basisOf
-directed-in t w b e = ap (λ (z : Basis). z .directed) e
-
 module _ {t : List ℤ} (v : Valid t) where
   -- of a state that matches the book
   accurate-in : {s : State} {b : Book} → Good s → Kept t s → Matches t s b → T (b .seen) → s .live .reading .error ≡ Error.None →
       Accurate (s .live .reading .result) (exactAt t b) (slopeAt t)
-  unfolding curveAt basisOf
   accurate-in {s} {b} g k m y e =
       rw is
       (subst (λ (S : Ratio). Accurate (readingOf (s .table) (s .live .basis) .result) (exactAt t b) S) (slope-alike (k .alike) stored-scaling long stored-points)
-      (subst (λ (u : Frac). Accurate (readingOf (s .table) (s .live .basis) .result) u (slopeAt (s .table))) (curve-same ∙ ap (curveFrom offsetting) start-same)
+      (subst (λ (u : Frac). Accurate (readingOf (s .table) (s .live .basis) .result) u (slopeAt (s .table))) (curve-same ∙ ap (λ (z : Basis). curveFrom offsetting (z .start)) (m .basis))
       (reading.accurate (g .table) (s .live .basis) (ap (λ (r : Reading). r .error) (sym is) ∙ e))))
     where
       is : s .live .reading ≡ readingOf (s .table) (s .live .basis)
@@ -81,13 +75,10 @@ module _ {t : List ℤ} (v : Valid t) where
       offsetting : List ℤ
       offsetting = withOffset t (b .offset)
 
-      curve-same : curveFrom (s .table) (s .live .basis .directed) ≡ curveFrom offsetting (s .live .basis .directed)
+      curve-same : curveFrom (s .table) (s .live .basis .start) ≡ curveFrom offsetting (s .live .basis .start)
       curve-same =
           curve-alike (alike-trans (k .alike) (alike-sym (offset-alike t (b .offset)))) stored-scaling (long ∙ sym (length-set t offsetSlot (b .offset))) stored-points
-          (m .offset ∙ sym (offset-stored (b .offset) v)) (s .live .basis .directed)
-
-      start-same : s .live .basis .directed ≡ directedAt offsetting (b .telegram)
-      start-same = directed-in t (b .telegram) (s .live .basis) (m .basis y) ∙ sym (directed-alike (offset-alike t (b .offset)) stored-layout stored-scaling (b .telegram))
+          (m .offset ∙ sym (offset-stored (b .offset) v)) (s .live .basis .start)
 
   -- of the result last answered, with the book
   accurately : (es : List Event) → T (bookOf t es .seen) → lastAnswer t es .error ≡ Error.None → Accurate (lastAnswer t es .result) (exactAt t (bookOf t es)) (slopeAt t)

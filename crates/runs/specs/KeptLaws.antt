@@ -50,7 +50,7 @@ module _ (t : List ℤ) where
   unfolding resetOf clearLocksOf clearExtremesOf teachOf
   kept-command a s m g =
       by-command a s m (Kept t) g
-      (λ _ _. let p = pos (s .live .basis .directed) in kept-reread (withTable s (withOffset (s .table) p)) (alike-trans (offset-alike (s .table) p) (g .alike)))
+      (λ _ _. let p = pos (s .live .basis .start) in kept-reread (withTable s (withOffset (s .table) p)) (alike-trans (offset-alike (s .table) p) (g .alike)))
       (record { alike = g .alike; read = g .read; zeroed = g .zeroed })
       (record { alike = g .alike; read = g .read; zeroed = g .zeroed })
       (λ k h _ _. record {

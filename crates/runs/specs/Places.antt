@@ -20,6 +20,8 @@ use Rattle.measurement.specs.Measure as measure
 use Rattle.panel.specs.Step as step
 use Rattle.parameters.specs.Rows as row
 use Rattle.parameters.specs.Slots.{analogFormat, analogStart, analogEnd}
+use Rattle.reading.specs.Follow as follow
+use Rattle.roundloop.specs.Count.{firstCount}
 use Rattle.reading.specs.Reading as reading
 use Rattle.settings.specs.Settings as settings
 use Rattle.inputs.specs.Freeze as freeze
@@ -156,7 +158,7 @@ saids [] = []
 saids (p ∷ ps) = p .said ∷ saids ps
 
 pub checked : gots places ≡ saids places
-unfolding places lastOf answersOf freshOf step.stepOf step.onTelegram step.answerOf step.displayedOf step.shownAfter step.switchedOf step.switchesAfter freeze.frozen freeze.freezes state.receivedOf state.rereadOf extremes.widenedOf reading.acceptsOf reading.directedAt reading.basisOf reading.measuredAt reading.codeAt reading.driveAt reading.readingOf settings.layoutOf settings.scalingOf settings.pointsOf settings.spanOf settings.inputAt settings.actionOf settings.configOf settings.preselectionOf settings.preselectionsOf ssi.accepted ssi.errorReported ssi.positionOf ssi.grayDecoded measure.directedOf measure.distanceOf measure.scaledOf measure.judgedOf measure.usedPoints measure.valueOf measure.measuredOf curve.pointsFrom curve.rightOf curve.fourQuadrants curve.oneQuadrant curve.curve curve.linearizedOf roundDiv floorMod row.defaultTable row.defaultsFrom row.rowAt row.rowOf switching.suppresses switching.releasedOf switching.heldOf switching.pulseOf switching.signalOf switching.activeOf switching.conditionedOf switching.lockedOf switching.switchedOf switching.partnerOf switching.switchedAt eachFrom condition.latchedOf condition.onAbove condition.onBelow condition.onNear condition.compared condition.against condition.ruleOf condition.conditionOf condition.exceeds analog.codeOf analog.held drive.driveOf drive.floatOf ofInt mul div add
+unfolding places lastOf answersOf freshOf step.stepOf step.onTelegram step.answerOf step.displayedOf step.shownAfter step.switchedOf step.switchesAfter freeze.frozen freeze.freezes state.receivedOf state.rereadOf extremes.widenedOf reading.acceptsOf reading.directedAt reading.basisOf follow.basisAfter follow.followedOf follow.countAfter firstCount reading.measuredAt reading.codeAt reading.driveAt reading.readingOf settings.layoutOf settings.scalingOf settings.pointsOf settings.spanOf settings.inputAt settings.actionOf settings.configOf settings.preselectionOf settings.preselectionsOf ssi.accepted ssi.errorReported ssi.positionOf ssi.grayDecoded measure.directedOf measure.distanceOf measure.scaledOf measure.judgedOf measure.usedPoints measure.valueOf measure.measuredOf curve.pointsFrom curve.rightOf curve.fourQuadrants curve.oneQuadrant curve.curve curve.linearizedOf roundDiv floorMod row.defaultTable row.defaultsFrom row.rowAt row.rowOf switching.suppresses switching.releasedOf switching.heldOf switching.pulseOf switching.signalOf switching.activeOf switching.conditionedOf switching.lockedOf switching.switchedOf switching.partnerOf switching.switchedAt eachFrom condition.latchedOf condition.onAbove condition.onBelow condition.onNear condition.compared condition.against condition.ruleOf condition.conditionOf condition.exceeds analog.codeOf analog.held drive.driveOf drive.floatOf ofInt mul div add
 checked = refl
 
 -- every one of these tables loads

@@ -27,6 +27,9 @@ module _ {touched : ℕ → Bool} {s t : List ℤ} (a : Alike touched s t) where
   pub direction-alike : misses touched slot.scalingSlots ≡ true → slot.direction s ≡ slot.direction t
   direction-alike m = rw (at slot.scalingSlots m 0 (omega arith))
 
+  pub loop-alike : misses touched slot.scalingSlots ≡ true → slot.roundLoop s ≡ slot.roundLoop t
+  loop-alike m = rw (at slot.scalingSlots m 1 (omega arith))
+
   -- the mode of the linearization, and how many points are used
   pub mode-alike : misses touched slot.scalingSlots ≡ true → slot.linearization s ≡ slot.linearization t
   mode-alike m = rw (at slot.scalingSlots m 5 (omega arith))

@@ -25,7 +25,7 @@ pub struct Span {
 pub enum Action {
     // Nothing.
     None,
-    // The offset becomes the position after direction.
+    // The offset becomes the position after direction, with a round loop the count.
     Reset,
     // The shown value is held.
     Freeze,
@@ -97,6 +97,13 @@ pub fn direction(t: &[i32; 104]) -> u32
     ensures { λ r. ⌜ r ≡ scalingOf (now (t .entry)) .direction ⌝ }
 {
     natural(t, slots::DIRECTION)
+}
+
+// The round loop alone, 0 off.
+pub fn round_loop(t: &[i32; 104]) -> u32
+    ensures { λ r. ⌜ r ≡ scalingOf (now (t .entry)) .«round_loop» ⌝ }
+{
+    natural(t, slots::ROUND_LOOP)
 }
 
 // The words of the control points.

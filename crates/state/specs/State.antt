@@ -8,17 +8,14 @@ use Rattle.analog.specs.declared.Drive.the-variants.{Off}
 use Rattle.measurement.specs.declared.Error.the-variants as Error
 use Rattle.reading.specs.declared.Basis.{Basis}
 use Rattle.reading.specs.declared.Reading.{Reading}
-use Rattle.reading.specs.Reading.{basisOf, readingOf, halvesOf}
+use Rattle.reading.specs.Follow.{noBasis, basisAfter}
+use Rattle.reading.specs.Reading.{readingOf, halvesOf}
 use Rattle.switching.specs.declared.Switch.{Switch}
 use Rattle.switching.specs.Switching.{freshSwitch}
 use Rattle.state.specs.declared.Extremes.{Extremes}
 use Rattle.state.specs.declared.Live.{Live}
 use Rattle.state.specs.declared.State.{State}
 use Rattle.state.specs.Extremes.{noExtremes, errorIn, widenedOf}
-
--- nothing to start from yet
-abbrev pub noBasis : Basis
-noBasis = record { directed = 0; reported = false }
 
 -- result 0, no error, drive off
 abbrev pub noReading : Reading
@@ -100,6 +97,6 @@ halvesIn s = halvesOf (s .table) (s .live .basis)
 unfoldable pub rereadOf : State → State
 rereadOf s = stateOf (s .table) (setRead (s .live) (readAgain s))
 
--- an accepted telegram
+-- an accepted telegram, behind what the one before it left
 unfoldable pub receivedOf : State → ℕ → State
-receivedOf s w = rereadOf (withBasis s (basisOf (s .table) w))
+receivedOf s w = rereadOf (withBasis s (basisAfter (s .table) (s .live .basis) w))

@@ -60,8 +60,10 @@ pub fn fresh(table: [i32; 104]) -> State
             levels: 0,
             seen: false,
             basis: Basis {
-                directed: 0,
+                start: 0,
+                place: 0,
                 reported: false,
+                counted: false,
             },
             reading: Reading {
                 result: 0,

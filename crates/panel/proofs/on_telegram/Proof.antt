@@ -20,8 +20,8 @@ returns c =
     let a = test .before .accepts in
     rw (← a .ensures, not-true (a .result) (test .if1 .taken), c .refused .ensures)
 
-basis-of-requires : tie.Need-basis-of-requires
-basis-of-requires c κs = search needs
+basis-after-requires : tie.Need-basis-after-requires
+basis-after-requires c κs = search needs
 
 read-requires : tie.Need-read-requires
 read-requires c κs = search needs
@@ -34,10 +34,10 @@ unfolding onTelegram receivedOf rereadOf markedOf
 returns-2 c =
     let m = c .before .before in
     let b = m .before in
-    let test = b .before in
+    let test = b .before .before in
     let a = test .before .accepts in
-    rw (← a .ensures, not-false (a .result) (test .if1 .left), c .received .ensures, m .read .ensures, b .basis-of .ensures)
+    rw (← a .ensures, not-false (a .result) (test .if1 .left), c .received .ensures, m .read .ensures, b .basis-after .ensures)
 
 pub on-telegram-spec : {M : Type 1} → statement M
 on-telegram-spec =
-    tie.close (tie.spec accepts-requires refused-requires returns basis-of-requires read-requires received-requires returns-2)
+    tie.close (tie.spec accepts-requires refused-requires returns basis-after-requires read-requires received-requires returns-2)
