@@ -1,0 +1,649 @@
+-- WHERE M IS A MULTIPLE OF R, OLD AND NEW RULE AGREE: the new panel's count is the old one's position modulo R, their offsets are equal modulo R, so the distances are
+-- equal, and with them all that follows. Commands move both alike, since a reset that 13 leaves is refused by neither. Paper 02, K4.
+use mathlib.Core.Path.{_≡_, refl, sym, ap, subst, _∙_}
+use mathlib.Core.Bool.{Bool, true, false, cond, not, _&&_, _||_}
+use mathlib.Core.List.{List, [], _∷_}
+use Prim.Native.Nat.{ℕ, zero, suc, _*_, _%_, _≤_, _<_}
+use native.Mathlib.Decide.{ℕ-discrete}
+use native.Mathlib.Nat.{mod-eq-of-lt}
+use native.Mathlib.Omega.{arith}
+use borrow.Author.Tests.{ne-eqb, le-ltb}
+use lib.Dec.{T, eqb, ltb, leb}
+use lib.IntN.{ℤ, pos, _-ℤ_}
+use lib.ListN.{length, length-set}
+use Rattle.events.specs.declared.Event.{Event}
+use Rattle.events.specs.declared.Event.the-variants.{Telegram, Levels, Tick}
+use Rattle.inputs.specs.Commands.{Acted, acted, resetRefusal, resetOf, clearLocksOf, extremesAt, clearExtremesOf, teachRefusal, teachOf, refusalOf, carriedOut, marksAfter, commandOf}
+use Rattle.inputs.specs.CommandLaws.{good-input, input-aimed}
+use Rattle.inputs.specs.Freeze.{frozen}
+use Rattle.inputs.specs.Levels.{edgeAt, inputOf, marksAt, commandsOf, marksLeft}
+use Rattle.integers.specs.ChoiceLaws.{by-test, is-true, is-false}
+use Rattle.integers.specs.Int.{P}
+use Rattle.integers.specs.Limit.{Z}
+use Rattle.integers.specs.ModLaws.{floor-nat, mod-sub, mod-below, mod-again}
+use Rattle.integers.specs.Round.{rounding, floorMod}
+use Rattle.integers.specs.TestLaws.{or-both, and-second}
+use Rattle.measurement.specs.declared.Error.the-variants as Error
+use Rattle.measurement.specs.declared.Measured.{Measured}
+use Rattle.measurement.specs.declared.Measurement.{Measurement}
+use Rattle.measurement.specs.declared.Scaling.{Scaling}
+use Rattle.measurement.specs.Curve.{linearizedBy}
+use Rattle.measurement.specs.Measure.{measured, distanceOf, distanceAt, scaledAt, scaledBy, judgedOf, usedPoints, valueOf, measuredOf, scalingHalf, lineHalf, measurementOf}
+use Rattle.panel.specs.declared.Answer.{Answer}
+use Rattle.panel.specs.Step.{answerOf, switchesAfter, switchedOf, shownAfter, displayedOf, settledOf, onTelegram, onLevels, onTick, stepOf}
+use Rattle.panel.specs.ValidLaws.{good-step}
+use Rattle.parameters.specs.Alike.{Alike, storedSlot}
+use Rattle.parameters.specs.RangeLaws.{round-loop-range}
+use Rattle.parameters.specs.Slots.{wordAt, natAt, offsetSlot, preselectionSlot, offset, roundLoop, preselection, withOffset, withPreselection}
+use Rattle.parameters.specs.StoreLaws.{word-stored, word-kept, alike-refl, alike-sym, alike-trans, offset-alike, preselection-alike, stored-layout, stored-scaling, stored-span, stored-points, stored-input, stored-preselection}
+use Rattle.parameters.specs.Valid.{Valid}
+use Rattle.parameters.specs.ValidLaws.{loads}
+use Rattle.reading.specs.declared.Basis.{Basis}
+use Rattle.reading.specs.AlikeLaws.{accepts-alike, directed-alike}
+use Rattle.reading.specs.Follow.{countAfter, followedOf, heldOf, basisAfter}
+use Rattle.reading.specs.FollowLaws.{by-follow}
+use Rattle.reading.specs.Reading.{acceptsOf, directedAt, basisOf, measuredAt, measurementAt, codedAt, readingOf, noHalves, marksOf, halvesOf}
+use Rattle.reading.specs.ReadingLaws.{reading-bit}
+use Rattle.roundloop.specs.CountLaws.{Even, first-is, counted-place}
+use Rattle.runs.specs.KeptLaws.{Kept, kept-fresh, kept-input, kept-step}
+use Rattle.runs.specs.Run.{answersOf}
+use Rattle.settings.specs.declared.Action.{Action}
+use Rattle.settings.specs.declared.Action.the-variants.{None, Reset, Freeze, ClearLocks, ClearExtremes, Teach}
+use Rattle.settings.specs.AlikeLaws.{layout-alike, loop-alike, points-alike, span-alike, input-alike, preselections-alike}
+use Rattle.settings.specs.Settings.{isReset, Aimed, layoutOf, scalingOf, pointsOf, spanOf, preselectionsOf, inputAt}
+use Rattle.ssi.specs.Telegram.{errorReported, modulus}
+use Rattle.state.specs.declared.State.{State}
+use Rattle.state.specs.State.{freshOf, withTable, withBasis, withLevels, withSwitches, errorOf, halvesIn, rereadOf, receivedOf}
+use Rattle.reading.specs.declared.Reading.{Reading}
+use Rattle.state.specs.Extremes.{errorIn, widenedOf}
+use Rattle.state.specs.Valid.{Good}
+use Rattle.state.specs.ValidLaws.{good-fresh}
+use Rattle.switching.specs.Switching.{allUnlocked, allTicked}
+use Rattle.turntable.specs.OldRule.{oldReceived, oldTelegram, oldStep, oldAnswers, barredAt, barredBy, barredIn}
+use Rattle.turntable.specs.Turntable.{positions, Same, AllSame, RulesAgree}
+use Rattle.turntable.specs.TravelledLaws.{modulus-even}
+
+-- two choices by one test
+both : {A B : Type 0} (c : Bool) (x y : A) (x′ y′ : B) (Q : A → B → Type 0) → (T c → Q x x′) → (T (not c) → Q y y′) → Q (cond c x y) (cond c x′ y′)
+both true x y x′ y′ Q f g = f tt
+both false x y x′ y′ Q f g = g tt
+
+-- ---- numbers: a count, and a position that it is modulo R
+
+distance-tied : (R : ℕ) → 0 < R → (u p : ℕ) (O O′ : ℤ) → pos u ≡ floorMod (pos p) (pos R) → floorMod O (pos R) ≡ floorMod O′ (pos R) → distanceOf u O R ≡ distanceOf p O′ R
+unfolding distanceOf
+distance-tied R h u p O O′ e f =
+    rw (ne-eqb R 0 (λ z. omega arith)) (mod-sub R h (pos u) (pos p) O O′ (ap (λ (z : ℤ). floorMod z (pos R)) e ∙ mod-again R h (pos p)) f)
+
+-- two scalings that differ in the offset alone read alike where the distances are equal
+record Scalings (a b : Scaling) : Type 0 where
+  factor : a .factor ≡ b .factor
+  divider : a .divider ≡ b .divider
+  additive : a .additive ≡ b .additive
+  linearization : a .linearization ≡ b .linearization
+  used : a .used ≡ b .used
+
+module _ {a b : Scaling} (x : Scalings a b) (ws : List ℤ) (u p : ℕ) (e : distanceAt a u ≡ distanceAt b p) where
+  scaled-tied : scaledAt a u ≡ scaledAt b p
+  scaled-tied = rw (e, x .factor, x .divider, x .additive)
+
+  scaling-tied : scalingHalf a u ≡ scalingHalf b p
+  unfolding scalingHalf scaledBy
+  scaling-tied = rw (e, x .factor, x .divider)
+
+  value-tied : valueOf a ws u ≡ valueOf b ws p
+  unfolding valueOf usedPoints
+  value-tied = rw (scaled-tied, x .linearization, x .used)
+
+  line-tied : lineHalf a ws u ≡ lineHalf b ws p
+  unfolding lineHalf usedPoints linearizedBy rounding
+  line-tied = rw (scaled-tied, x .linearization, x .used)
+
+  measurement-tied : (reported : Bool) → measurementOf a ws u reported ≡ measurementOf b ws p reported
+  unfolding measurementOf measuredOf
+  measurement-tied reported = rw (value-tied, scaling-tied, line-tied)
+
+-- ---- tables and bases
+
+-- alike but for the offset, and there equal modulo R
+record Tables (R : ℕ) (s o : List ℤ) : Type 0 where
+  alike : Alike storedSlot s o
+  long : length s ≡ length o
+  held : (k : ℕ) → k < 4 → preselection s k ≡ preselection o k
+  offsets : floorMod (offset s) (pos R) ≡ floorMod (offset o) (pos R)
+
+-- the count is what it was last counted from modulo R, and without error 3 the old position modulo R
+record Bases (R : ℕ) (b o : Basis) : Type 0 where
+  reported : b .reported ≡ o .reported
+  count : T (b .counted) → pos (b .start) ≡ floorMod (pos (b .place)) (pos R)
+  start : b .reported ≡ false → pos (b .start) ≡ floorMod (pos (o .start)) (pos R)
+
+-- under error 3 nothing of the basis matters
+faulty-measured : (t : List ℤ) (b : Basis) → b .reported ≡ true → measuredAt t b ≡ measured (pos 0) Error.ErrorBit
+unfolding measuredAt measuredOf judgedOf
+faulty-measured t b e = rw e
+
+faulty-halves : (t : List ℤ) (b : Basis) → b .reported ≡ true → halvesOf t b ≡ noHalves
+unfolding halvesOf marksOf measurementAt measurementOf measuredOf judgedOf
+faulty-halves t b e = rw e
+
+measured-in : (t : List ℤ) (b : Basis) → measurementAt t b .measured ≡ measuredAt t b
+unfolding measurementAt measurementOf measuredAt
+measured-in t b = refl
+
+module _ (R : ℕ) (h : 0 < R) {s o : List ℤ} (x : Tables R s o) (loop : roundLoop s ≡ R) where
+  number : (n : ℕ) → storedSlot n ≡ false → natAt s n ≡ natAt o n
+  number n e = rw (x .alike .same n e)
+
+  points-tied : pointsOf s ≡ pointsOf o
+  points-tied = points-alike (x .alike) (x .long) stored-points
+
+  span-tied : spanOf s ≡ spanOf o
+  span-tied = span-alike (x .alike) stored-span
+
+  scalings : Scalings (scalingOf s) (scalingOf o)
+  unfolding scalingOf
+  scalings = record { factor = number 10 refl; divider = number 11 refl; additive = x .alike .same 12 refl; linearization = number 13 refl; used = number 55 refl }
+
+  distances : (u p : ℕ) → pos u ≡ floorMod (pos p) (pos R) → distanceAt (scalingOf s) u ≡ distanceAt (scalingOf o) p
+  unfolding scalingOf
+  distances u p e = rw (loop, sym (number 7 refl) ∙ loop) (distance-tied R h u p (offset s) (offset o) e (x .offsets))
+
+  measurement-at : {b c : Basis} → Bases R b c → b .reported ≡ false → measurementAt s b ≡ measurementAt o c
+  unfolding measurementAt
+  measurement-at {b} {c} y e =
+      rw (points-tied, y .reported) (measurement-tied scalings (pointsOf o) (b .start) (c .start) (distances (b .start) (c .start) (y .start e)) (c .reported))
+
+  measured-tied : {b c : Basis} → Bases R b c → measuredAt s b ≡ measuredAt o c
+  measured-tied {b} {c} y = go (b .reported) refl
+    where
+      go : (r : Bool) → b .reported ≡ r → measuredAt s b ≡ measuredAt o c
+      go true e = faulty-measured s b e ∙ sym (faulty-measured o c (sym (y .reported) ∙ e))
+      go false e = sym (measured-in s b) ∙ ap (λ (z : Measurement). z .measured) (measurement-at y e) ∙ measured-in o c
+
+  reading-tied : {b c : Basis} → Bases R b c → readingOf s b ≡ readingOf o c
+  unfolding readingOf
+  reading-tied y = rw (measured-tied y, span-tied)
+
+  halves-same : {b c : Basis} → Bases R b c → b .reported ≡ false → halvesOf s b ≡ halvesOf o c
+  unfolding halvesOf
+  halves-same y e = rw (measurement-at y e, measured-tied y, span-tied)
+
+  halves-tied : {b c : Basis} → Bases R b c → halvesOf s b ≡ halvesOf o c
+  halves-tied {b} {c} y = go (b .reported) refl
+    where
+      go : (r : Bool) → b .reported ≡ r → halvesOf s b ≡ halvesOf o c
+      go true e = faulty-halves s b e ∙ sym (faulty-halves o c (sym (y .reported) ∙ e))
+      go false e = halves-same y e
+
+-- ---- states
+
+-- all that an answer tells is equal
+record Tied (R : ℕ) (s o : State) : Type 0 where
+  tables : Tables R (s .table) (o .table)
+  basis : Bases R (s .live .basis) (o .live .basis)
+  levels : s .live .levels ≡ o .live .levels
+  seen : s .live .seen ≡ o .live .seen
+  reading : s .live .reading ≡ o .live .reading
+  shown : s .live .shown ≡ o .live .shown
+  extremes : s .live .extremes ≡ o .live .extremes
+  switches : s .live .switches ≡ o .live .switches
+
+module _ {R : ℕ} {s o : List ℤ} (x : Tables R s o) where
+  preselections-tied : preselectionsOf s ≡ preselectionsOf o
+  preselections-tied = preselections-alike (x .alike) stored-preselection (x .held)
+
+  inputs-tied : (i : ℕ) → i < 3 → inputAt s i ≡ inputAt o i
+  inputs-tied i h = input-alike (x .alike) i (stored-input i h)
+
+  frozen-tied : (l : ℕ) → frozen s l ≡ frozen o l
+  unfolding frozen
+  frozen-tied l = rw (inputs-tied 0 (omega arith), inputs-tied 1 (omega arith), inputs-tied 2 (omega arith))
+
+module _ {R : ℕ} {s o : State} (x : Tied R s o) where
+  shown-tied : shownAfter (s .table) (s .live .levels) (s .live .shown) (s .live .reading .result) ≡ shownAfter (o .table) (o .live .levels) (o .live .shown) (o .live .reading .result)
+  unfolding shownAfter
+  shown-tied = rw (frozen-tied (x .tables) (s .live .levels), x .levels, x .shown, x .reading)
+
+  switches-tied :
+      switchesAfter (s .live .seen) (s .table) (s .live .reading .result) (s .live .switches) ≡ switchesAfter (o .live .seen) (o .table) (o .live .reading .result) (o .live .switches)
+  unfolding switchesAfter
+  switches-tied = rw (preselections-tied (x .tables), x .seen, x .reading, x .switches)
+
+  settled-tied : Tied R (settledOf s) (settledOf o)
+  unfolding displayedOf switchedOf
+  settled-tied =
+      record {
+        tables = x .tables;
+        basis = x .basis;
+        levels = x .levels;
+        seen = x .seen;
+        reading = x .reading;
+        shown = shown-tied;
+        extremes = x .extremes;
+        switches = switches-tied;
+      }
+
+  answer-tied : (note note′ halves halves′ : ℕ) → note ≡ note′ → halves ≡ halves′ → Same (answerOf s note halves) (answerOf o note′ halves′)
+  unfolding answerOf
+  answer-tied note note′ halves halves′ e f =
+      record {
+        result = rw (x .reading);
+        shown = x .shown;
+        error = rw (x .reading);
+        code = rw (x .reading);
+        drive = rw (x .reading);
+        switches = x .switches;
+        outputs = rw (preselections-tied (x .tables), x .switches);
+        extremes = x .extremes;
+        note = e;
+        halves = f;
+      }
+
+-- the result worked out again
+reread-tied : {R : ℕ} → 0 < R → (s o : State) → roundLoop (s .table) ≡ R → Tables R (s .table) (o .table) → Bases R (s .live .basis) (o .live .basis) →
+    s .live .levels ≡ o .live .levels → s .live .seen ≡ o .live .seen → s .live .shown ≡ o .live .shown → s .live .extremes ≡ o .live .extremes →
+    s .live .switches ≡ o .live .switches → Tied R (rereadOf s) (rereadOf o)
+unfolding rereadOf
+reread-tied {R} h s o loop tables basis levels seen shown extremes switches =
+    let e : readingOf (s .table) (s .live .basis) ≡ readingOf (o .table) (o .live .basis) = reading-tied R h tables loop basis in
+    record {
+      tables = tables;
+      basis = basis;
+      levels = levels;
+      seen = seen;
+      reading = e;
+      shown = shown;
+      extremes = rw (extremes, e);
+      switches = switches;
+    }
+
+-- ---- a table that loads, with M a multiple of its R
+
+module _ {t : List ℤ} (v : Valid t) (h : 0 < roundLoop t) (c : ℕ) (multiple : positions t ≡ c * roundLoop t) where
+  abbrev R : ℕ
+  R = roundLoop t
+
+  abbrev Ties : State → State → Type 0
+  Ties s o = Tied R s o
+
+  -- the table in force has the loaded one's round loop
+  loop-kept : {s : State} → Kept t s → roundLoop (s .table) ≡ R
+  loop-kept k = loop-alike (k .alike) stored-scaling
+
+  fresh-tied : Ties (freshOf t) (freshOf t)
+  unfolding freshOf
+  fresh-tied =
+      record {
+        tables = record { alike = alike-refl t; long = refl; held = λ k _. refl; offsets = refl };
+        basis = record { reported = refl; count = λ n. absurd n; start = λ _. ap pos (sym (mod-eq-of-lt h)) ∙ sym (floor-nat 0 R h) };
+        levels = refl;
+        seen = refl;
+        reading = refl;
+        shown = refl;
+        extremes = refl;
+        switches = refl;
+      }
+
+  -- ---- a telegram
+
+  module _ {s o : State} (k : Kept t s) (x : Ties s o) where
+    abbrev here : ℕ → ℕ
+    here w = directedAt (s .table) w
+
+    count-is : (w : ℕ) → pos (countAfter R (positions t) (s .live .basis) (here w)) ≡ floorMod (pos (here w)) (pos R)
+    unfolding countAfter
+    count-is w =
+        by-test (s .live .basis .counted) _ _ (λ (n : ℕ). pos n ≡ floorMod (pos (here w)) (pos R))
+        (λ y. counted-place R h (modulus-even (layoutOf t)) c multiple (s .live .basis .start) (s .live .basis .place) (here w) (x .basis .count y))
+        (λ _. first-is R h (here w))
+
+    bit-same : (w : ℕ) → errorReported (layoutOf (s .table)) w ≡ errorReported (layoutOf (o .table)) w
+    bit-same w = rw (layout-alike (x .tables .alike) stored-layout)
+
+    bases : (w : ℕ) → Bases R (basisAfter (s .table) (s .live .basis) w) (basisOf (o .table) w)
+    unfolding basisOf heldOf followedOf
+    bases w =
+        by-follow (s .table) (rw (loop-kept k) h) (s .live .basis) w (λ (b : Basis). Bases R b (basisOf (o .table) w))
+        (λ y. record { reported = sym y ∙ bit-same w; count = x .basis .count; start = λ e. absurd (true-false e) })
+        (λ n. rw (loop-kept k, layout-alike (k .alike) stored-layout)
+        (record {
+          reported = sym n ∙ bit-same w;
+          count = λ _. count-is w;
+          start = λ _. count-is w ∙ ap (λ (p : ℕ). floorMod (pos p) (pos R)) (directed-alike (x .tables .alike) stored-layout stored-scaling w);
+        }))
+      where
+        true-false : (true ≡ false) → ⊥
+        true-false e = let z : _≡_ {A = ℕ} 0 1 = cc in omega arith
+
+    received-tied : (w : ℕ) → Ties (receivedOf s w) (oldReceived o w)
+    unfolding receivedOf oldReceived
+    received-tied w =
+        reread-tied h (withBasis s (basisAfter (s .table) (s .live .basis) w)) (withBasis o (basisOf (o .table) w)) (loop-kept k) (x .tables) (bases w) (x .levels) refl (x .shown) (x .extremes) (x .switches)
+
+    received-halves : (w : ℕ) → halvesIn (receivedOf s w) ≡ halvesIn (oldReceived o w)
+    unfolding receivedOf oldReceived rereadOf
+    received-halves w = halves-tied R h (x .tables) (loop-kept k) (bases w)
+
+  -- ---- a command
+
+  -- a reset is refused by 13 in both panels or in neither, and by 12 in neither
+  refusal-numbers : (seen : Bool) (error u p : ℕ) → (T seen → eqb error 3 ≡ false → u ≤ Z) → eqb (resetRefusal seen error p) 12 ≡ false →
+      resetRefusal seen error u ≡ resetRefusal seen error p
+  unfolding resetRefusal
+  refusal-numbers false error u p f n = refl
+  refusal-numbers true error u p f n = go (eqb error 3) refl n
+    where
+      low : (b : Bool) → eqb (cond b 12 0) 12 ≡ false → _≡_ {A = ℕ} 0 (cond b 12 0)
+      low true n = absurd (let z : _≡_ {A = ℕ} 0 1 = cc in omega arith)
+      low false n = refl
+
+      go : (b : Bool) → eqb error 3 ≡ b → eqb (cond b 13 (cond (ltb Z p) 12 0)) 12 ≡ false → _≡_ {A = ℕ} (cond b 13 (cond (ltb Z u) 12 0)) (cond b 13 (cond (ltb Z p) 12 0))
+      go true e n = refl
+      go false e n = rw (le-ltb Z u (f tt e)) (low (ltb Z p) n)
+
+  module _ {s o : State} (k : Kept t s) (x : Ties s o) where
+    -- without error 3 the count is below R
+    count-fits : T (s .live .seen) → eqb (errorOf s) 3 ≡ false → s .live .basis .start ≤ Z
+    count-fits y e =
+        let r : s .live .basis .reported ≡ false = sym (reading-bit (s .table) (s .live .basis)) ∙ ap (λ (z : Reading). eqb (errorIn z) 3) (sym (k .read y)) ∙ e in
+        let u : s .live .basis .start ≡ P (floorMod (pos (o .live .basis .start)) (pos R)) = ap P (x .basis .start r) in
+        omega (arith, u, mod-below R h (pos (o .live .basis .start)), round-loop-range v)
+
+    refusal-tied : (a : Action) → eqb (refusalOf a o) 12 ≡ false → refusalOf a s ≡ refusalOf a o
+    unfolding refusalOf
+    refusal-tied None n = refl
+    refusal-tied Freeze n = refl
+    refusal-tied ClearLocks n = refl
+    refusal-tied ClearExtremes n = refl
+    refusal-tied Reset n =
+        rw (← x .seen, ← x .reading) (refusal-numbers (s .live .seen) (errorOf s) (s .live .basis .start) (o .live .basis .start) count-fits (rw (x .seen, x .reading) n))
+    refusal-tied (Teach j) n = rw (x .seen, x .reading)
+
+  -- what a reset and a teach store
+  reset-tables : {s o : State} → Good s → Ties s o → s .live .basis .reported ≡ false →
+      Tables R (withOffset (s .table) (pos (s .live .basis .start))) (withOffset (o .table) (pos (o .live .basis .start)))
+  reset-tables {s} {o} g x e =
+      record {
+        alike = alike-trans (offset-alike (s .table) u) (alike-trans (x .tables .alike) (alike-sym (offset-alike (o .table) p)));
+        long = length-set (s .table) offsetSlot u ∙ x .tables .long ∙ sym (length-set (o .table) offsetSlot p);
+        held = λ k l.
+            word-kept (s .table) offsetSlot u (preselectionSlot k) (λ e. omega arith) ∙ x .tables .held k l
+            ∙ sym (word-kept (o .table) offsetSlot p (preselectionSlot k) (λ e. omega arith));
+        offsets = rw (word-stored (s .table) offsetSlot u (omega (arith, g .table .long)), word-stored (o .table) offsetSlot p (omega (arith, g .table .long, x .tables .long)))
+            (ap (λ (z : ℤ). floorMod z (pos R)) (x .basis .start e) ∙ mod-again R h p);
+      }
+    where
+      u : ℤ
+      u = pos (s .live .basis .start)
+
+      p : ℤ
+      p = pos (o .live .basis .start)
+
+  taught : {a b : List ℤ} → length a ≡ 104 → Tables R a b → (k : ℕ) (r : ℤ) → k < 4 → Tables R (withPreselection a k r) (withPreselection b k r)
+  taught {a} {b} long x k r small =
+      record {
+        alike = alike-trans (preselection-alike a k r small) (alike-trans (x .alike) (alike-sym (preselection-alike b k r small)));
+        long = length-set a (preselectionSlot k) r ∙ x .long ∙ sym (length-set b (preselectionSlot k) r);
+        held = λ j l. held j l (ℕ-discrete j k);
+        offsets = rw (word-kept a (preselectionSlot k) r offsetSlot (λ e. omega arith), word-kept b (preselectionSlot k) r offsetSlot (λ e. omega arith)) (x .offsets);
+      }
+    where
+      held : (j : ℕ) → j < 4 → Dec (j ≡ k) → preselection (withPreselection a k r) j ≡ preselection (withPreselection b k r) j
+      held j l (yes e) =
+          rw e
+          (word-stored a (preselectionSlot k) r (omega (arith, long)) ∙ sym (word-stored b (preselectionSlot k) r (omega (arith, long, x .long))))
+      held j l (no n) =
+          word-kept a (preselectionSlot k) r (preselectionSlot j) (λ e. n (omega arith)) ∙ x .held j l ∙ sym (word-kept b (preselectionSlot k) r (preselectionSlot j) (λ e. n (omega arith)))
+
+  -- what a command leaves of both, and its note
+  record Left (x y : Acted) : Type 0 where
+    state : Ties (x .state) (y .state)
+    note : x .note ≡ y .note
+
+  -- a reset that is not refused has a telegram, and no error 3
+  allowed : (seen : Bool) (error u : ℕ) → T (eqb (resetRefusal seen error u) 0) → T seen × (eqb error 3 ≡ false)
+  unfolding resetRefusal
+  allowed false error u y = absurd y
+  allowed true error u y = (tt, go (eqb error 3) y)
+    where
+      go : (b : Bool) → T (eqb (cond b 13 (cond (ltb Z u) 12 0)) 0) → b ≡ false
+      go true y = absurd y
+      go false y = refl
+
+  module _ {s o : State} (g : Good s) (k : Kept t s) (x : Ties s o) where
+    abbrev u : ℤ
+    u = pos (s .live .basis .start)
+
+    abbrev p : ℤ
+    p = pos (o .live .basis .start)
+
+    unreported : T (eqb (refusalOf Reset s) 0) → s .live .basis .reported ≡ false
+    unfolding refusalOf
+    unreported y =
+        let n = allowed (s .live .seen) (errorOf s) (s .live .basis .start) y in
+        sym (reading-bit (s .table) (s .live .basis)) ∙ ap (λ (z : Reading). eqb (errorIn z) 3) (sym (k .read (n .0))) ∙ n .1
+
+    reset-loop : roundLoop (withOffset (s .table) u) ≡ R
+    reset-loop = loop-alike (alike-trans (offset-alike (s .table) u) (k .alike)) stored-scaling
+
+    reset-tied : T (eqb (refusalOf Reset s) 0) → Ties (resetOf s) (resetOf o)
+    unfolding resetOf
+    reset-tied y =
+        reread-tied h (withTable s (withOffset (s .table) u)) (withTable o (withOffset (o .table) p)) reset-loop (reset-tables g x (unreported y)) (x .basis)
+        (x .levels) (x .seen) (x .shown) (x .extremes) (x .switches)
+
+    reset-halves : T (eqb (refusalOf Reset s) 0) → halvesIn (resetOf s) ≡ halvesIn (resetOf o)
+    unfolding resetOf rereadOf
+    reset-halves y = halves-tied R h (reset-tables g x (unreported y)) reset-loop (x .basis)
+
+    -- the same live values, and tables that are tied
+    kept-live : {a b : List ℤ} → Tables R a b → Ties (withTable s a) (withTable o b)
+    kept-live z =
+        record {
+          tables = z;
+          basis = x .basis;
+          levels = x .levels;
+          seen = x .seen;
+          reading = x .reading;
+          shown = x .shown;
+          extremes = x .extremes;
+          switches = x .switches;
+        }
+
+    command-tied : (a : Action) → Aimed a → eqb (refusalOf a o) 12 ≡ false → Left (commandOf a s) (commandOf a o)
+    unfolding commandOf carriedOut clearLocksOf extremesAt clearExtremesOf teachOf
+    command-tied a m n = rw (← same) (both (eqb (refusalOf a s) 0) _ _ _ _ Left (λ y. record { state = done a m y; note = refl }) (λ _. record { state = x; note = refl }))
+      where
+        same : refusalOf a s ≡ refusalOf a o
+        same = refusal-tied k x a n
+
+        r : ℤ
+        r = s .live .reading .result
+
+        done : (a : Action) → Aimed a → T (eqb (refusalOf a s) 0) → Ties (carriedOut a s) (carriedOut a o)
+        done None m y = x
+        done Freeze m y = x
+        done Reset m y = reset-tied y
+        done ClearLocks m y =
+            record {
+              tables = x .tables;
+              basis = x .basis;
+              levels = x .levels;
+              seen = x .seen;
+              reading = x .reading;
+              shown = x .shown;
+              extremes = x .extremes;
+              switches = rw (x .switches);
+            }
+        done ClearExtremes m y =
+            record {
+              tables = x .tables;
+              basis = x .basis;
+              levels = x .levels;
+              seen = x .seen;
+              reading = x .reading;
+              shown = x .shown;
+              extremes = rw (x .seen, x .reading);
+              switches = x .switches;
+            }
+        done (Teach j) m y =
+            kept-live (subst (λ (z : ℤ). Tables R (withPreselection (s .table) j r) (withPreselection (o .table) j z)) (ap (λ (z : Reading). z .result) (x .reading)) (taught (g .table .long) (x .tables) j r m))
+
+    marks-tied : (a : Action) (marks : ℕ) → eqb (refusalOf a o) 12 ≡ false → marksAfter a s marks ≡ marksAfter a o marks
+    unfolding marksAfter
+    marks-tied a marks n = rw (← refusal-tied k x a n) (go a)
+      where
+        go : (a : Action) → cond (isReset a && eqb (refusalOf a s) 0) (halvesIn (resetOf s)) marks ≡ cond (isReset a && eqb (refusalOf a s) 0) (halvesIn (resetOf o)) marks
+        go None = refl
+        go Freeze = refl
+        go ClearLocks = refl
+        go ClearExtremes = refl
+        go (Teach j) = refl
+        go Reset = both (eqb (refusalOf Reset s) 0) (halvesIn (resetOf s)) marks (halvesIn (resetOf o)) marks (λ (m n : ℕ). m ≡ n) reset-halves (λ _. refl)
+
+  -- ---- an input, and the three of them
+
+  module _ (l i : ℕ) (small : i < 3) (x y : Acted) (g : Good (x .state)) (k : Kept t (x .state)) (z : Left x y) (n : barredAt l i y ≡ false) where
+    abbrev table : List ℤ
+    table = x .state .table
+
+    edge-tied : edgeAt (x .state) l i ≡ edgeAt (y .state) l i
+    unfolding edgeAt
+    edge-tied = rw (inputs-tied (z .state .tables) i small, z .state .levels)
+
+    action-tied : inputAt table i .action ≡ inputAt (y .state .table) i .action
+    action-tied = rw (inputs-tied (z .state .tables) i small)
+
+    -- where it acts, 12 refuses it in neither
+    unbarred : T (edgeAt (y .state) l i) → eqb (refusalOf (inputAt table i .action) (y .state)) 12 ≡ false
+    unfolding barredAt
+    unbarred e = rw action-tied (and-second (edgeAt (y .state) l i) _ n (is-true (edgeAt (y .state) l i) e))
+
+    input-tied : Left (inputOf l i x) (inputOf l i y)
+    unfolding inputOf
+    input-tied =
+        rw edge-tied
+        (both (edgeAt (y .state) l i) _ x _ y Left
+        (λ e. let w = command-tied g k (z .state) (inputAt table i .action) (input-aimed table i) (unbarred e) in
+        rw (← action-tied, z .note) (record { state = w .state; note = rw (w .note) })) (λ _. z))
+
+    marks-at : (marks : ℕ) → marksAt l i x marks ≡ marksAt l i y marks
+    unfolding marksAt
+    marks-at marks =
+        rw (edge-tied, ← action-tied)
+        (both (edgeAt (y .state) l i) _ marks _ marks (λ (m n : ℕ). m ≡ n) (λ e. marks-tied g k (z .state) (inputAt table i .action) marks (unbarred e)) (λ _. refl))
+
+  module _ (s o : State) (l : ℕ) (g : Good s) (k : Kept t s) (x : Ties s o)
+      (n₀ : barredAt l 0 (acted o 0) ≡ false)
+      (n₁ : barredAt l 1 (inputOf l 0 (acted o 0)) ≡ false)
+      (n₂ : barredAt l 2 (inputOf l 1 (inputOf l 0 (acted o 0))) ≡ false) where
+    abbrev x₁ : Acted
+    x₁ = inputOf l 0 (acted s 0)
+
+    abbrev y₁ : Acted
+    y₁ = inputOf l 0 (acted o 0)
+
+    g₁ : Good (x₁ .state)
+    g₁ = good-input l 0 (acted s 0) g
+
+    k₁ : Kept t (x₁ .state)
+    k₁ = kept-input t l 0 (acted s 0) k
+
+    g₂ : Good (inputOf l 1 x₁ .state)
+    g₂ = good-input l 1 x₁ g₁
+
+    k₂ : Kept t (inputOf l 1 x₁ .state)
+    k₂ = kept-input t l 1 x₁ k₁
+
+    z₀ : Left (acted s 0) (acted o 0)
+    z₀ = record { state = x; note = refl }
+
+    z₁ : Left x₁ y₁
+    z₁ = input-tied l 0 (omega arith) (acted s 0) (acted o 0) g k z₀ n₀
+
+    z₂ : Left (inputOf l 1 x₁) (inputOf l 1 y₁)
+    z₂ = input-tied l 1 (omega arith) x₁ y₁ g₁ k₁ z₁ n₁
+
+    commands-tied : Left (commandsOf s l) (commandsOf o l)
+    unfolding commandsOf
+    commands-tied = input-tied l 2 (omega arith) (inputOf l 1 x₁) (inputOf l 1 y₁) g₂ k₂ z₂ n₂
+
+    marks-left : marksLeft s l ≡ marksLeft o l
+    unfolding marksLeft
+    marks-left =
+        rw (marks-at l 0 (omega arith) (acted s 0) (acted o 0) g k z₀ n₀ noHalves, marks-at l 1 (omega arith) x₁ y₁ g₁ k₁ z₁ n₁ _)
+        (marks-at l 2 (omega arith) (inputOf l 1 x₁) (inputOf l 1 y₁) g₂ k₂ z₂ n₂ _)
+
+  -- ---- an event, and a run
+
+  -- two answers, and what they leave
+  record Stepped (a b : Answer) : Type 0 where
+    same : Same a b
+    state : Ties (a .state) (b .state)
+
+  stepped : {s o : State} → Ties s o → (note note′ halves halves′ : ℕ) → note ≡ note′ → halves ≡ halves′ → Stepped (answerOf s note halves) (answerOf o note′ halves′)
+  unfolding answerOf
+  stepped x note note′ halves halves′ e f = record { same = answer-tied x note note′ halves halves′ e f; state = x }
+
+  levels-set : {s o : State} → Ties s o → (l : ℕ) → Ties (withLevels s l) (withLevels o l)
+  levels-set x l =
+      record {
+        tables = x .tables;
+        basis = x .basis;
+        levels = refl;
+        seen = x .seen;
+        reading = x .reading;
+        shown = x .shown;
+        extremes = x .extremes;
+        switches = x .switches;
+      }
+
+  ticked : {s o : State} → Ties s o → (ms : ℕ) → Ties (withSwitches s (allTicked ms (s .live .switches))) (withSwitches o (allTicked ms (o .live .switches)))
+  ticked x ms =
+      record {
+        tables = x .tables;
+        basis = x .basis;
+        levels = x .levels;
+        seen = x .seen;
+        reading = x .reading;
+        shown = x .shown;
+        extremes = x .extremes;
+        switches = rw (x .switches);
+      }
+
+  step-tied : (s o : State) → Good s → Kept t s → Ties s o → (e : Event) → barredBy o e ≡ false → Stepped (stepOf s e) (oldStep o e)
+  unfolding stepOf onTelegram oldStep oldTelegram onLevels onTick barredBy
+  step-tied s o g k x (Telegram w) n =
+      rw (accepts-alike (x .tables .alike) stored-layout w)
+      (both (acceptsOf (o .table) w) _ _ _ _ Stepped
+      (λ _. stepped (settled-tied (received-tied k x w)) 0 0 _ _ refl (received-halves k x w)) (λ _. stepped x 11 11 noHalves noHalves refl refl))
+  step-tied s o g k x (Levels l) n =
+      both (leb l 7) _ _ _ _ Stepped
+      (λ y. let m = and-second (leb l 7) _ n (is-true (leb l 7) y) in
+      let m₁ = or-both (barredAt l 0 (acted o 0)) _ m in
+      let m₂ = or-both (barredAt l 1 (inputOf l 0 (acted o 0))) _ (m₁ .1) in
+      let z = commands-tied s o l g k x (m₁ .0) (m₂ .0) (m₂ .1) in
+      stepped (settled-tied (levels-set (z .state) l)) _ _ _ _ (z .note) (marks-left s o l g k x (m₁ .0) (m₂ .0) (m₂ .1)))
+      (λ _. stepped x 10 10 noHalves noHalves refl refl)
+  step-tied s o g k x (Tick ms) n = stepped (ticked x ms) 0 0 noHalves noHalves refl refl
+
+  run-tied : (s o : State) → Good s → Kept t s → Ties s o → (es : List Event) → barredIn oldStep o es ≡ false → AllSame (answersOf s es) (oldAnswers o es)
+  unfolding answersOf oldAnswers barredIn AllSame
+  run-tied s o g k x [] n = tt
+  run-tied s o g k x (e ∷ es) n =
+      let m = or-both (barredBy o e) _ n in
+      let y = step-tied s o g k x e (m .0) in
+      (y .same, run-tied (stepOf s e .state) (oldStep o e .state) (good-step g e) (kept-step t k e) (y .state) es (m .1))
+
+-- WHERE M IS A MULTIPLE OF R, OLD AND NEW RULE AGREE
+pub rules-agree : RulesAgree
+rules-agree t e c multiple es n =
+    run-tied (loads t e) above c multiple (freshOf t) (freshOf t) (good-fresh (loads t e)) (kept-fresh t) (fresh-tied (loads t e) above c multiple) es n
+  where
+    above : 0 < roundLoop t
+    above = go (roundLoop t) multiple
+      where
+        go : (r : ℕ) → positions t ≡ c * r → 0 < r
+        go zero m = absurd (omega (arith, modulus-even (layoutOf t) .some))
+        go (suc r) m = omega arith
