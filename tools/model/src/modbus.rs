@@ -204,11 +204,8 @@ pub fn fault(frame: &[u8]) -> Option<Fault> {
         _ if frame.len() > 256 => return Some(Fault::Over256),
         [_, READ, _, _, _, _, _, _] => {}
         [_, READ, ..] => return Some(Fault::ReadNot8),
-        [_, WRITE, _, _, _, _, count, ref rest @ .., _, _] => {
-            if rest.len() != count.into() {
-                return Some(Fault::WriteNotItsCount);
-            }
-        }
+        [_, WRITE, _, _, _, _, count, ref rest @ .., _, _] if rest.len() == count.into() => {}
+        [_, WRITE, _, _, _, _, _, .., _, _] => return Some(Fault::WriteNotItsCount),
         [_, WRITE, ..] => return Some(Fault::WriteUnder9),
         _ => {}
     }

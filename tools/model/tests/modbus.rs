@@ -255,11 +255,14 @@ fn registers_that_are_not_mapped() {
 
 // Writes
 
+/// Slots set before, slot and word of the write, the check that refuses it.
+type Refused<'a> = (&'a [(usize, i32)], usize, i32, u8);
+
 #[test]
 fn each_load_check_refuses_a_write() {
     // 6: used x 0 and 0. 7: rising, but the first point is not (0, 0).
     let rising = [(55, 2), (56, 5), (58, 9)];
-    let cases: [(&[(usize, i32)], usize, i32, u8); 8] = [
+    let cases: [Refused; 8] = [
         (&[], 0, 33, 2),
         (&[], 4, 26, 3),
         (&[], 8, 25, 4),
