@@ -19,12 +19,17 @@ const FAR_END: Range<u64> = 16_000_000..16_500_000;
 const MIDDLE: Range<u64> = 8_000_000..8_500_000;
 const NEAR_END: Range<u64> = 0..500_000;
 
+/// K4: the round loop, and how far from the encoder's end its telegrams turn back.
+const ROUND_LOOP: i32 = 3_600;
+const SWING: i64 = 20_000;
+
 /// Events made beforehand and taken in turn.
 const RING: usize = 4_096;
 
-/// The kinds that are timed; the last three are telegrams on one line of the curve.
-pub const KINDS: [&str; 7] =
-    ["telegrams", "levels", "ticks", "mixed", "far_end", "middle", "near_end"];
+/// The kinds that are timed; `far_end`, `middle` and `near_end` are telegrams on one line of the
+/// curve, `round_loop` ones that cross the encoder's end.
+pub const KINDS: [&str; 8] =
+    ["telegrams", "levels", "ticks", "mixed", "far_end", "middle", "near_end", "round_loop"];
 
 /// Runs the events of an input through the 64-bit panel again and again; a sum over all answers.
 pub fn sum(input: &[u8], rounds: u64) -> u64 {
@@ -78,17 +83,24 @@ fn drive_part(drive: Drive) -> u64 {
 
 /// An input of panelrun with this many of the timed events.
 pub fn input(kind: &str, count: usize) -> Vec<u8> {
-    let table = table::load(&words()).unwrap();
+    let mut words = words();
+    if kind == "round_loop" {
+        words[slot::ROUND_LOOP] = ROUND_LOOP;
+    }
+    let table = table::load(&words).unwrap();
     let mut log = Vec::new();
     for &event in events(&table, kind).iter().cycle().take(count) {
         log::write(&mut log, event);
     }
-    panelrun::input_of(&words(), &log)
+    panelrun::input_of(&words, &log)
 }
 
 /// The events of a kind, taken in turn, behind a telegram that starts the switching.
 fn events(table: &Table, kind: &str) -> Vec<Event> {
     let mut rng = Rng::new(1);
+    if kind == "round_loop" {
+        return swinging(&mut rng, table);
+    }
     let positions = match kind {
         "far_end" => FAR_END,
         "middle" => MIDDLE,
@@ -127,6 +139,21 @@ fn ring(make: impl FnMut(usize) -> Event) -> Vec<Event> {
 fn telegram(rng: &mut Rng, table: &Table, positions: &Range<u64>) -> Event {
     let position = positions.start + rng.below(positions.end - positions.start);
     Event::Telegram(telegram::build(table, position, false).unwrap())
+}
+
+/// K4: telegrams in steps of 100 to 400 positions, one in eight the other way, from one side of the
+/// encoder's end to the other and back again.
+fn swinging(rng: &mut Rng, table: &Table) -> Vec<Event> {
+    let (mut place, mut way) = (-SWING, 1);
+    ring(|_| {
+        let turned = if rng.below(8) == 0 { -1 } else { 1 };
+        place += way * turned * rng.between(100, 400);
+        if place.abs() >= SWING {
+            way = -place.signum();
+        }
+        let position = place.rem_euclid(table.positions());
+        Event::Telegram(telegram::build(table, position as u64, false).unwrap())
+    })
 }
 
 /// A table with a 24-point curve, four modes, a pulse, a lock and three commands.

@@ -8,6 +8,7 @@ use crate::panel::{self, Event, Halves};
 use crate::panelrun::{self, End, Step};
 use crate::table::{Action, Format, Table};
 use crate::telegram;
+use crate::turntable::{Others, Turntable};
 
 /// Counts over one run or many.
 #[derive(Clone, Debug, Default)]
@@ -41,6 +42,8 @@ pub struct Coverage {
     pub curves: [u64; 3],
     pub reverse: u64,
     pub round_loop: u64,
+    /// K4.
+    pub turntable: Turntable,
     /// K14: telegrams that move on without error under a table that goes forward, by linearization;
     /// those that run back all the same; those that run back under another table.
     pub moved_on: [u64; 3],
@@ -67,7 +70,12 @@ pub struct Coverage {
 /// The printed text of an input and what its run meets.
 pub fn observe(input: &[u8]) -> (String, Coverage) {
     let mut seen = Coverage { runs: 1, ..Coverage::default() };
-    let (text, end) = panelrun::run_with(input, |step| seen.see(&step));
+    let table = panelrun::load(input).ok();
+    let mut others = table.as_ref().map(Others::new);
+    let (text, end) = panelrun::run_with(input, |step| {
+        seen.see(&step);
+        others.iter_mut().for_each(|others| others.see(&step, &mut seen.turntable));
+    });
     match end {
         End::Refused(refusal) => seen.numbers[refusal.number as usize] += 1,
         End::Log(number) => {
@@ -75,6 +83,7 @@ pub fn observe(input: &[u8]) -> (String, Coverage) {
             seen.numbers[number as usize] += 1;
         }
     }
+    table.iter().for_each(|table| seen.turntable.see_table(table));
     seen.lines += text.lines().count() as u64;
     (text, seen)
 }
@@ -222,6 +231,7 @@ impl Coverage {
             ("telegrams in reverse".into(), &mut self.reverse),
             ("telegrams with round loop".into(), &mut self.round_loop),
         ]);
+        list.extend(self.turntable.counters());
         name_all(&mut list, "moved on, linearization", &mut self.moved_on);
         list.extend([
             ("ran back, table forward".into(), &mut self.ran_back),
@@ -310,8 +320,9 @@ fn upward_is_apart(step: &Step) -> Option<bool> {
     let Event::Telegram(word) = step.event else {
         return None;
     };
-    let reading = telegram::read(step.table, word).filter(|_| step.after.error == 0)?;
-    let upward = measure::measure_upward(step.table, step.after.offset, reading);
+    telegram::read(step.table, word).filter(|_| step.after.error == 0)?;
+    let place = panel::place(step.table, step.after);
+    let upward = measure::measure_upward(step.table, step.after.offset, place);
     Some(upward != (step.after.result, 0))
 }
 

@@ -25,3 +25,4 @@ pub mod slave;
 pub mod table;
 pub mod tally;
 pub mod telegram;
+pub mod turntable;

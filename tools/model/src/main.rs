@@ -20,7 +20,8 @@ const USAGE: &str = "usage:
   model record sessions SEED COUNT DIR
   model check ..                   (as record: whether the files are those of the seed)
   model step ROUNDS < input        (a sum over all answers)
-  model events KIND N > input      (telegrams, levels, ticks, mixed, far_end, middle or near_end)
+  model events KIND N > input      (telegrams, levels, ticks, mixed, far_end, middle, near_end
+                                   or round_loop)
   model serve ROUNDS < input       (a sum over all replies)
   model frames KIND N > input      (read, write or mixed)";
 
@@ -94,8 +95,9 @@ fn generate_case(seed: u64, case: u64) -> io::Result<bool> {
     Ok(true)
 }
 
-/// False as well where digits ran back under a table that goes forward (K14), or where halves
-/// rounded upward give other digits though no half of theirs is marked (K7).
+/// False as well where digits ran back under a table that goes forward (K14), where halves rounded
+/// upward give other digits though no half of theirs is marked (K7), where the rule before K4 answers
+/// otherwise though M is a multiple of R, or where 12 is noted with a round loop (K4).
 fn compare(program: &str, seed: u64, count: u64) -> io::Result<bool> {
     let make = |index| differ::panelrun_case(seed, index);
     let (seen, difference) = differ::differ(program, count, make)?;
@@ -105,7 +107,8 @@ fn compare(program: &str, seed: u64, count: u64) -> io::Result<bool> {
     }
     println!("{} cases and {} lines compared, no difference", seen.runs, seen.lines);
     print!("{seen}");
-    Ok(seen.ran_back == 0 && seen.unmarked_apart == 0)
+    let k4 = seen.turntable.compared_apart == 0 && seen.turntable.noted_12 == 0;
+    Ok(seen.ran_back == 0 && seen.unmarked_apart == 0 && k4)
 }
 
 fn compare_console(program: &str, seed: u64, count: u64) -> io::Result<bool> {

@@ -1,9 +1,8 @@
 //! From position to result: direction, offset, round loop, scaling, linearization and errors.
-//! Paper: "From telegram to result", steps 1 to 5.
+//! Paper: "From telegram to result", steps 1 to 5; K4's count in step 2.
 
 use crate::fraction::{Fraction, Rounded};
 use crate::table::{Linearization, Point, Table, Z};
-use crate::telegram::Reading;
 
 /// Result and error of a telegram.
 #[derive(Clone, Copy, Debug, PartialEq, Eq)]
@@ -17,21 +16,31 @@ pub struct Measured {
     pub linearization_half: bool,
 }
 
-/// Steps 1 to 5 with the offset in force.
-pub fn measure(table: &Table, offset: i64, reading: Reading) -> Measured {
-    let d = distance(table, offset, directed(table, reading.position));
-    let v = scaled(table, d);
+/// Error 3.
+const FAULTY: Measured =
+    Measured { result: 0, error: 3, scaling_half: false, linearization_half: false };
+
+/// Steps 2 to 5 with the offset in force, from p after direction or, with a round loop, from its
+/// unrolled place; there is none under error 3.
+pub fn measure(table: &Table, offset: i64, place: Option<i64>) -> Measured {
+    let Some(place) = place else {
+        return FAULTY;
+    };
+    let v = scaled(table, distance(table, offset, place));
     let value = linearized(table, v.value);
-    let (result, error) = checked(reading.faulty, value.value);
+    let (result, error) = checked(value.value);
     Measured { result, error, scaling_half: v.half, linearization_half: value.half }
 }
 
 /// K7: result and error by a firmware that rounds halves upward in scaling and linearization, those
 /// of the mirrored line too.
-pub fn measure_upward(table: &Table, offset: i64, reading: Reading) -> (i64, u8) {
-    let d = distance(table, offset, directed(table, reading.position));
+pub fn measure_upward(table: &Table, offset: i64, place: Option<i64>) -> (i64, u8) {
+    let Some(place) = place else {
+        return (0, 3);
+    };
+    let d = distance(table, offset, place);
     let v = stretched(table, d).round_upward() + table.additive;
-    checked(reading.faulty, bent(table, v).round_upward())
+    checked(bent(table, v).round_upward())
 }
 
 /// K14: direction forward, no round loop, and used y that never fall, unless linearization is off.
@@ -50,11 +59,31 @@ pub fn directed(table: &Table, position: i64) -> i64 {
     }
 }
 
-/// Step 2: d.
-pub fn distance(table: &Table, offset: i64, directed: i64) -> i64 {
+/// K4: the unrolled place of a position after direction: at first the position itself, then of all
+/// numbers that equal it modulo M the one that lies a step s from the last, −M/2 ≤ s < M/2.
+pub fn unrolled(table: &Table, last: Option<i64>, directed: i64) -> i64 {
+    let Some(last) = last else {
+        return directed;
+    };
+    let positions = table.positions();
+    let turn = last.div_euclid(positions);
+    let near = |place: &i64| {
+        let twice = 2 * (place - last);
+        -positions <= twice && twice < positions
+    };
+    (turn - 1..=turn + 1).map(|turn| turn * positions + directed).find(near).unwrap()
+}
+
+/// K4: the count U of an unrolled place.
+pub fn count(table: &Table, place: i64) -> i64 {
+    place.rem_euclid(table.round_loop)
+}
+
+/// Step 2: d. K4: an unrolled place and its count give the same.
+pub fn distance(table: &Table, offset: i64, place: i64) -> i64 {
     match table.round_loop {
-        0 => directed - offset,
-        round => (directed - offset).rem_euclid(round),
+        0 => place - offset,
+        round => (place - offset).rem_euclid(round),
     }
 }
 
@@ -105,23 +134,13 @@ fn line(left: Point, right: Point, v: i64) -> Fraction {
     from_left.plus(Fraction::whole(right.y).times(to_left))
 }
 
-/// Step 5: result and error, the result 0 under an error.
-fn checked(faulty: bool, value: i64) -> (i64, u8) {
-    match error(faulty, value) {
-        0 => (value, 0),
-        error => (0, error),
-    }
-}
-
-/// The error of a value, 0 for none.
-fn error(faulty: bool, value: i64) -> u8 {
-    if faulty {
-        3
-    } else if value > Z.into() {
-        1
+/// Step 5 without error 3: result and error, the result 0 under an error.
+fn checked(value: i64) -> (i64, u8) {
+    if value > Z.into() {
+        (0, 1)
     } else if value < (-Z).into() {
-        2
+        (0, 2)
     } else {
-        0
+        (value, 0)
     }
 }

@@ -223,6 +223,8 @@ pub struct Table {
     pub offset: i64,
     pub reverse: bool,
     pub round_loop: i64,
+    /// K4: a round loop is followed by a count; only `before_k4` unsets it.
+    pub counted: bool,
     /// 1 to 32, 0 for none.
     pub error_bit: u32,
     pub error_level: bool,
@@ -322,6 +324,7 @@ impl Table {
             offset: words[slot::OFFSET].into(),
             reverse: words[slot::DIRECTION] == 1,
             round_loop: words[slot::ROUND_LOOP].into(),
+            counted: true,
             error_bit: words[slot::ERROR_BIT] as u32,
             error_level: words[slot::ERROR_LEVEL] == 1,
             factor: words[slot::FACTOR].into(),
@@ -348,6 +351,17 @@ impl Table {
     /// M, the number of positions.
     pub fn positions(&self) -> i64 {
         1 << self.field_width()
+    }
+
+    /// K4: whether d is taken from a count.
+    pub fn counts(&self) -> bool {
+        self.counted && self.round_loop > 0
+    }
+
+    /// The same table by the rule before K4, for comparisons only: d = (p − O) modulo R, a reset
+    /// stores p, and 12 applies.
+    pub fn before_k4(&self) -> Table {
+        Table { counted: false, ..self.clone() }
     }
 }
 

@@ -5,9 +5,11 @@ use std::fmt;
 
 use crate::console::{self, Command, Console, Said, Wrong, LINE};
 use crate::differ::Counts;
+use crate::measure;
 use crate::modbus::{Addressee, Answered, Exception, Fault, Outcome, Place, Slave};
 use crate::panel::{self, Event, Halves};
 use crate::table::{self, slot, Action};
+use crate::turntable::{self, Move};
 
 /// Counts by name.
 #[derive(Clone, Debug, Default, PartialEq, Eq)]
@@ -26,6 +28,7 @@ pub fn names() -> Vec<String> {
         .extend((2..=9).map(|number| format!("exception 3: write refused by load check {number}")));
     names.extend(EXCEPTIONS.map(String::from));
     names.extend(HALVES.map(String::from));
+    names.extend(ROUND_LOOPS.map(String::from));
     names.extend(Wrong::ALL.map(|wrong| format!("line answered: {}", wrong.words())));
     names.extend(LINES.map(String::from));
     names
@@ -90,6 +93,19 @@ const HALVES: [&str; 17] = [
     "halves kept over a refused start",
 ];
 
+/// K4: what happens to a panel with a round loop.
+const ROUND_LOOPS: [&str; 9] = [
+    "round loop: start",
+    "round loop: encoder's end crossed forward",
+    "round loop: encoder's end crossed backward",
+    "round loop: exactly half a turn",
+    "round loop: error 3 where the end is crossed",
+    "round loop: reset after a crossing",
+    "round loop: reset with p above Z",
+    "round loop: read of the count that a reset stored after a crossing",
+    "round loop: another count than without the write before",
+];
+
 const LINES: [&str; 7] = [
     "line: blank",
     "line: remark",
@@ -126,6 +142,10 @@ struct Run {
     high: Option<u8>,
     /// K7: what the last event, frame or start did to the marks.
     fate: Option<&'static str>,
+    /// K4: the unrolled place before the write that began the run.
+    place: Option<i64>,
+    /// K4: the offset is the count of a reset after a crossing.
+    stored: bool,
 }
 
 impl Tally {
@@ -155,6 +175,7 @@ impl Tally {
                 self.count_if(answer.error != 0, &format!("event with error {}", answer.error));
                 self.count_if(*number == 1 && run.high.is_some(), "event 1 after a write");
                 self.see_wires(run, before, after);
+                self.see_round_loop(run, before, said, after);
             }
             Said::Frame(answered) => {
                 let (Some(before), Some(after)) = (&before.panel, &after.panel) else {
@@ -227,8 +248,57 @@ impl Tally {
                 u16::from(panel.node) == before.node && *panel.loaded() == before.words
             };
             self.count_if(before.panel.as_ref().is_some_and(same), "start once more");
+            self.count_if(before.words[slot::ROUND_LOOP] > 0, "round loop: start");
             *run = Run::default();
         }
+    }
+
+    /// K4: what an event does to the count.
+    fn see_round_loop(&mut self, run: &mut Run, before: &Console, said: &Said, after: &Console) {
+        let (Some(before), Some(after), Said::Event(_, event, _)) =
+            (&before.panel, &after.panel, said)
+        else {
+            return;
+        };
+        if !after.table.counts() {
+            return;
+        }
+        match *event {
+            Event::Levels(levels) if turntable::resets(&before.table, &before.state, levels) => {
+                let turned = before
+                    .state
+                    .unrolled
+                    .is_some_and(|place| !(0..before.table.positions()).contains(&place));
+                run.stored = turned;
+                self.count_if(turned, "round loop: reset after a crossing");
+                let above = turntable::above_z(&before.table, &before.state);
+                self.count_if(above, "round loop: reset with p above Z");
+            }
+            Event::Telegram(_) if after.state.error != 3 => self.see_counted(run, before, after),
+            _ => {}
+        }
+    }
+
+    /// K4: what a telegram without error 3 does to the count; a refused one leaves it.
+    fn see_counted(&mut self, run: &mut Run, before: &Slave, after: &Slave) {
+        let (from, Some(to)) = (before.state.unrolled, after.state.unrolled) else {
+            return;
+        };
+        let Some(from) = from else {
+            let count = |place| measure::count(&after.table, place);
+            let without = run.place.map(|place| measure::unrolled(&after.table, Some(place), to));
+            let other = without.is_some_and(|place| count(place) != count(to));
+            self.count_if(other, "round loop: another count than without the write before");
+            return;
+        };
+        let moved = turntable::moved(&after.table, from, to);
+        let crossed = matches!(moved, Move::Forward | Move::Backward);
+        let half = matches!(moved, Move::HalfTurn(_));
+        self.count_if(moved == Move::Forward, "round loop: encoder's end crossed forward");
+        self.count_if(moved == Move::Backward, "round loop: encoder's end crossed backward");
+        self.count_if(half, "round loop: exactly half a turn");
+        let behind = before.state.error == 3;
+        self.count_if(crossed && behind, "round loop: error 3 where the end is crossed");
     }
 
     /// A command that a wire asks for which was high before the write and rises anew.
@@ -270,6 +340,8 @@ impl Tally {
                 self.count_if(kept, "write that keeps a reset or a teach");
                 run.written.push(slot);
                 run.high = Some(before.state.levels);
+                run.place = before.state.unrolled;
+                run.stored &= slot != slot::OFFSET;
             }
             Outcome::Refused(Addressee::This, exception) => self.see_exception(line, exception),
             Outcome::Refused(..) => self.count("no reply: to all, write refused"),
@@ -299,6 +371,11 @@ impl Tally {
                 let offset = slot == slot::OFFSET;
                 self.count_if(moved && offset, "read of the offset that a reset stored");
                 self.count_if(moved && !offset, "read of a preselection that was taught");
+                let counted = offset && run.stored && slave.table.counts();
+                self.count_if(
+                    counted,
+                    "round loop: read of the count that a reset stored after a crossing",
+                );
                 self.count_if(run.written.contains(&slot), "read of a slot that was written");
             }
             Place::Shown => {

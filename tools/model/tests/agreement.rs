@@ -34,6 +34,7 @@ fn answers_and_extremes_are_the_same() {
             let (after, answer) = panel::step(&table, &state, event);
             assert_eq!(fast.step(event), answer, "case {index}");
             assert_eq!(fast.extremes, after.extremes, "case {index}");
+            assert_eq!(fast.offset(), after.offset, "case {index}");
             state = after;
         }
     }

@@ -304,9 +304,9 @@ fn refused_resets_have_none() {
 
 /// Result and error of a telegram by both roundings, ours first.
 fn both(table: &Table, word: u32) -> [(i64, u8); 2] {
-    let reading = telegram::read(table, word).unwrap();
-    let ours = measure(table, table.offset, reading);
-    [(ours.result, ours.error), measure_upward(table, table.offset, reading)]
+    let place = Some(directed(table, telegram::read(table, word).unwrap().position));
+    let ours = measure(table, table.offset, place);
+    [(ours.result, ours.error), measure_upward(table, table.offset, place)]
 }
 
 #[test]
@@ -342,8 +342,7 @@ fn halves_upward_part_at_the_edge_of_error_2() {
     let wide = table(&[&WIDE[..], &[(10, 50_000)]].concat());
     assert_eq!(both(&wide, 199_999_999), [(0, 1), (0, 1)]);
     // Error 3 by both.
-    let faulty = Reading { faulty: true, ..telegram::read(&low, 0).unwrap() };
-    assert_eq!(measure_upward(&low, 1, faulty), (0, 3));
+    assert_eq!(measure_upward(&low, 1, None), (0, 3));
 }
 
 // Random runs
@@ -361,9 +360,10 @@ fn may_be_marked(step: &Step) -> bool {
     }
 }
 
-/// Whether a reset takes a reading.
+/// Whether a reset takes a reading; K4: with a round loop above Z too.
 fn takes(step: &Step, reading: Reading) -> bool {
-    !reading.faulty && directed(step.table, reading.position) <= Z.into()
+    let in_range = directed(step.table, reading.position) <= Z.into();
+    !reading.faulty && (in_range || step.table.round_loop > 0)
 }
 
 #[test]
@@ -383,7 +383,7 @@ fn random_runs_have_no_marks_elsewhere() {
 #[test]
 fn random_runs_agree_where_nothing_is_marked() {
     let mut seen = Coverage::default();
-    for index in 0..3_000 {
+    for index in 0..6_000 {
         seen.add(&observe(&generate::case(7, index).input).1);
     }
     assert!(seen.marked.iter().all(|&marks| marks > 200), "{:?}", seen.marked);

@@ -70,7 +70,16 @@ fn good_write(rng: &mut Rng, slave: &Slave) -> Vec<u8> {
 
 fn written_slot(rng: &mut Rng) -> usize {
     match rng.below(4) {
-        0 => rng.pick(&[slot::OFFSET, slot::ADDITIVE, slot::FACTOR, slot::DIRECTION, 2, 13, 14]),
+        0 => rng.pick(&[
+            slot::OFFSET,
+            slot::ADDITIVE,
+            slot::FACTOR,
+            slot::DIRECTION,
+            slot::ROUND_LOOP,
+            slot::FORMAT,
+            slot::LINEARIZATION,
+            slot::ANALOG,
+        ]),
         1 => rng.between(17, 54) as usize,
         2 => slot::preselection(rng.below(4) as usize),
         _ => rng.between(0, SLOTS as i64 - 1) as usize,

@@ -50,6 +50,8 @@ struct Walk<'a> {
     /// Of 100 telegrams, those at the error level and those with a bit above N.
     faulty: u64,
     refused: u64,
+    /// K4: of 100 telegrams with a round loop, those around the encoder's end.
+    turning: u64,
     /// Weights of telegrams, levels and ticks.
     kinds: [u64; 3],
 }
@@ -64,6 +66,7 @@ impl<'a> Walk<'a> {
     ) -> Walk<'a> {
         let faulty = if wish.error_bit { 20 } else { rng.pick(&[0, 4, 10]) };
         let refused = if wish.refused_telegrams { 15 } else { rng.pick(&[0, 0, 4]) };
+        let turning = if wish.turns { 70 } else { rng.pick(&[10, 30, 60]) };
         let kinds = rng.pick(&[[60, 25, 15], [80, 15, 5], [40, 50, 10], [45, 20, 35]]);
         Walk {
             rng,
@@ -74,6 +77,7 @@ impl<'a> Walk<'a> {
             stride: (table.divider / table.factor).max(1),
             faulty,
             refused,
+            turning: if table.counts() { turning } else { 0 },
             kinds,
         }
     }
@@ -100,23 +104,51 @@ impl<'a> Walk<'a> {
         word
     }
 
-    /// A small step, a step over a hysteresis, a jump to an anchor or to Z, or any place.
+    /// Moves on; K4: with a round loop often around the encoder's end.
     fn next_place(&mut self) {
+        let next = if self.rng.chance(self.turning) { self.turn() } else { self.step() };
+        self.place = next.rem_euclid(self.table.positions());
+    }
+
+    /// K4: at the encoder's end, near it, half a turn or just about, or a short step.
+    fn turn(&mut self) -> i64 {
+        let half = self.table.positions() / 2;
+        match self.rng.weighted(&[25, 25, 15, 35]) {
+            0 => self.rng.between(-4, 3),
+            1 => self.rng.between(-300, 299),
+            2 => self.state.unrolled.unwrap_or(0) + half + self.rng.pick(&[0, 0, 0, -1, 1]),
+            _ => self.place + self.rng.between(-300, 300),
+        }
+    }
+
+    /// A small step, a step over a hysteresis, a jump to an anchor or to Z, or any place.
+    fn step(&mut self) -> i64 {
         let small = self.rng.between(-4, 4);
         let k = self.rng.below(4) as usize;
         let hysteresis = self.table.preselections[k].hysteresis;
-        let next = match self.rng.weighted(&[35, 10, 15, 34, 2, 4]) {
+        match self.rng.weighted(&[35, 10, 15, 34, 2, 4]) {
             0 => self.place + small * self.stride,
             1 => self.place + small,
             2 => self.place + (hysteresis + small) * self.stride * self.rng.pick(&[-1, 1]),
             3 => {
                 let anchor = self.rng.pick(self.anchors);
-                self.state.offset + anchor + small * 3 * self.stride
+                self.at(anchor) + small * 3 * self.stride
             }
             4 => i64::from(Z) + self.rng.between(0, 1),
             _ => self.rng.ends(0, self.table.positions() - 1),
-        };
-        self.place = next.rem_euclid(self.table.positions());
+        }
+    }
+
+    /// The place of a distance; K4: with a round loop on from the place that is counted.
+    fn at(&self, distance: i64) -> i64 {
+        match self.state.unrolled {
+            None => self.state.offset + distance,
+            Some(place) => {
+                let round = self.table.round_loop;
+                let now = measure::distance(self.table, self.state.offset, place);
+                place + distance.rem_euclid(round) - now
+            }
+        }
     }
 
     /// A telegram of the place, other bits random at times.
@@ -128,6 +160,8 @@ impl<'a> Walk<'a> {
             self.place
         };
         let faulty = table.error_bit > 0 && self.rng.chance(self.faulty);
+        let anywhere = faulty && table.counts() && self.rng.chance(50);
+        let position = if anywhere { self.rng.ends(0, table.positions() - 1) } else { position };
         let word = telegram::build(table, position as u64, faulty).unwrap();
         if self.rng.chance(60) {
             return word;

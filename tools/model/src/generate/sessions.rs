@@ -256,7 +256,6 @@ fn small(rng: &mut Rng) -> Draft {
     };
     set(rng, 40, slot::OFFSET, 0, 200);
     set(rng, 15, slot::DIRECTION, 1, 1);
-    set(rng, 15, slot::ROUND_LOOP, 30, 360);
     set(rng, 15, slot::FACTOR, 50_000, 200_000);
     set(rng, 20, slot::ADDITIVE, -200, 200);
     set(rng, 25, slot::ANALOG, 1, 2);
@@ -267,30 +266,12 @@ fn small(rng: &mut Rng) -> Draft {
     set(rng, 20, slot::lock(0), 1, 1);
     set(rng, 15, slot::suppression(0), 1, 1);
     set(rng, 20, slot::target(1), 0, 4);
-    for input in 0..3 {
-        let action = rng.pick(&[0, 1, 1, 2, 3, 4, 5, 6, 7, 8]);
-        words[slot::action(input)] = action;
-        words[slot::config(input)] = match action {
-            2 => rng.between(0, 1),
-            _ => rng.pick(&[2, 2, 2, 0, 1, 3]),
-        } as i32;
+    set_inputs(rng, &mut words);
+    if rng.chance(50) {
+        words[slot::ROUND_LOOP] = round_loop(rng) as i32;
     }
     set_halves(rng, &mut words);
-    let mut reach = 150;
-    match rng.below(10) {
-        0 | 1 => {
-            words[slot::HIGH_BIT] = 24;
-            words[slot::ERROR_BIT] = 25;
-        }
-        2 => {
-            words[slot::RESOLUTION] = 32;
-            words[slot::HIGH_BIT] = 32;
-            words[slot::FACTOR] = rng.pick(&[50_000, 100_000]);
-            reach = 2 * i64::from(Z);
-        }
-        3 => words[slot::ADDITIVE] = rng.pick(&[-1, 1]) * (Z - rng.between(0, 99) as i32),
-        _ => {}
-    }
+    let reach = set_field(rng, &mut words);
     if rng.chance(30) {
         words[slot::LINEARIZATION] = rng.between(1, 2) as i32;
         let (x, y) = second_point(rng);
@@ -299,6 +280,56 @@ fn small(rng: &mut Rng) -> Draft {
     }
     let anchors = (0..3).map(|_| rng.between(0, reach)).collect();
     Draft { words, anchors }
+}
+
+/// Actions and configs, most on a rise.
+fn set_inputs(rng: &mut Rng, words: &mut [i32; SLOTS]) {
+    for input in 0..3 {
+        let action = rng.pick(&[0, 1, 1, 2, 3, 4, 5, 6, 7, 8]);
+        words[slot::action(input)] = action;
+        words[slot::config(input)] = match action {
+            2 => rng.between(0, 1),
+            _ => rng.pick(&[2, 2, 2, 0, 1, 3]),
+        } as i32;
+    }
+}
+
+/// K4: a round loop in reach of the events, most of which do not divide M.
+fn round_loop(rng: &mut Rng) -> i64 {
+    match rng.below(8) {
+        0 => rng.pick(&[1, Z.into()]),
+        1 => 1 << rng.between(1, 9),
+        2 | 3 => rng.pick(&[360, 3_600]),
+        _ => rng.between(30, 360),
+    }
+}
+
+/// Error bit, all 32 bits and often a reset, results near ±Z, or with a round loop few positions; how
+/// far distances reach.
+fn set_field(rng: &mut Rng, words: &mut [i32; SLOTS]) -> i64 {
+    match rng.below(10) {
+        0 | 1 => {
+            words[slot::HIGH_BIT] = 24;
+            words[slot::ERROR_BIT] = 25;
+        }
+        2 | 3 => {
+            words[slot::RESOLUTION] = 32;
+            words[slot::HIGH_BIT] = 32;
+            words[slot::FACTOR] = rng.pick(&[50_000, 100_000]);
+            if rng.chance(50) {
+                words[slot::action(0)] = 1;
+                words[slot::config(0)] = 2;
+            }
+            return 2 * i64::from(Z);
+        }
+        4 => words[slot::ADDITIVE] = rng.pick(&[-1, 1]) * (Z - rng.between(0, 99) as i32),
+        5 if words[slot::ROUND_LOOP] > 0 => {
+            words[slot::HIGH_BIT] = rng.pick(&[1, 2, 8]);
+            words[slot::ERROR_BIT] = 25;
+        }
+        _ => {}
+    }
+    150
 }
 
 /// K7: at times a factor and an analog span that give a half at every other distance and result.

@@ -68,7 +68,7 @@ fn set_error_bit(rng: &mut Rng, wish: &Wish, words: &mut [i32; SLOTS]) {
 fn set_scaling(rng: &mut Rng, wish: &Wish, words: &mut [i32; SLOTS]) {
     let positions = Table::from_words(words).positions();
     words[slot::DIRECTION] = i32::from(wish.reverse || rng.chance(40));
-    if wish.round_loop || rng.chance(35) {
+    if wish.round_loop.unwrap_or(rng.chance(47)) {
         words[slot::ROUND_LOOP] = round_loop(rng, positions) as i32;
     }
     let (factor, divider) = ratio(rng);
@@ -77,13 +77,16 @@ fn set_scaling(rng: &mut Rng, wish: &Wish, words: &mut [i32; SLOTS]) {
     words[slot::ADDITIVE] = additive(rng, wish) as i32;
 }
 
+/// One that divides M, a small one, one about M or above it, any, or one of a turntable.
 fn round_loop(rng: &mut Rng, positions: i64) -> i64 {
-    match rng.below(5) {
-        0 => rng.between(1, 4),
-        1 => rng.between(2, 1_000),
-        2 => (positions + rng.between(-2, 2)).clamp(1, LIMIT),
-        3 => rng.ends(1, LIMIT),
-        _ => 360,
+    match rng.weighted(&[30, 8, 16, 12, 8, 10, 16]) {
+        0 => 1 << rng.between(0, 26.min(positions.ilog2().into())),
+        1 => rng.between(1, 4),
+        2 => rng.between(2, 1_000),
+        3 => (positions + rng.between(-2, 2)).clamp(1, LIMIT),
+        4 => rng.between(positions.min(LIMIT), (4 * positions).min(LIMIT)),
+        5 => rng.ends(1, LIMIT),
+        _ => rng.pick(&[360, 3_600]),
     }
 }
 

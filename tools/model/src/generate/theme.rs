@@ -2,6 +2,7 @@
 
 use crate::coverage::Coverage;
 use crate::rng::Rng;
+use crate::turntable;
 
 /// The purpose of a case.
 #[derive(Clone, Copy, Debug, PartialEq, Eq)]
@@ -31,6 +32,17 @@ pub enum Theme {
     Format(u8),
     Reverse,
     RoundLoop,
+    /// K4: the encoder's end is crossed.
+    CrossedForward,
+    CrossedBackward,
+    /// K4: a step of exactly half a turn, 0 from the lower half of the positions, 1 from the upper.
+    HalfTurn(u8),
+    /// K4: telegrams with error 3 are not counted.
+    ErrorBetween,
+    ResetAfterCrossing,
+    ResetAboveZ,
+    /// K4: the rule before it gives another distance.
+    OtherDistance,
     /// Linearization 0 to 2.
     Curve(u8),
     Analog(u8),
@@ -52,7 +64,9 @@ pub struct Wish {
     pub width: Option<Width>,
     pub format: Option<i32>,
     pub reverse: bool,
-    pub round_loop: bool,
+    pub round_loop: Option<bool>,
+    /// K4: telegrams around the encoder's end, and half turns.
+    pub turns: bool,
     pub error_bit: bool,
     /// Results near ±Z, with this sign.
     pub limit: Option<i64>,
@@ -75,6 +89,10 @@ pub fn all() -> Vec<Theme> {
     let mut list: Vec<Theme> = (1..=9).map(Theme::Load).collect();
     list.extend((0..=1).map(Theme::Format));
     list.extend([Theme::Reverse, Theme::RoundLoop]);
+    list.extend([Theme::CrossedForward, Theme::CrossedBackward]);
+    list.extend((0..=1).map(Theme::HalfTurn));
+    list.extend([Theme::ErrorBetween, Theme::ResetAfterCrossing]);
+    list.extend([Theme::ResetAboveZ, Theme::OtherDistance]);
     list.extend((0..=2).map(Theme::Curve));
     list.extend((1..=3).map(Theme::Error));
     list.extend((11..=13).map(Theme::Note));
@@ -105,7 +123,7 @@ impl Theme {
         match self {
             Theme::Any | Theme::Load(_) | Theme::Log(_) => open,
             Theme::Note(11) => Wish { refused_telegrams: true, ..open },
-            Theme::Note(12) => Wish { width: Some(Width::Wide), action: Some(1), ..open },
+            Theme::Note(12) => Wish { round_loop: Some(false), ..above_z() },
             Theme::Note(_) => Wish { action: Some(1), error_bit: true, ..open },
             Theme::Error(3) => Wish { error_bit: true, ..open },
             Theme::Error(number) => near_limit(number),
@@ -118,7 +136,14 @@ impl Theme {
             Theme::Action(action) => Wish { action: Some(action.into()), ..open },
             Theme::Format(format) => Wish { format: Some(format.into()), ..open },
             Theme::Reverse => Wish { reverse: true, ..open },
-            Theme::RoundLoop => Wish { round_loop: true, ..open },
+            Theme::RoundLoop => Wish { round_loop: Some(true), ..open },
+            Theme::CrossedForward
+            | Theme::CrossedBackward
+            | Theme::HalfTurn(_)
+            | Theme::OtherDistance => turning(),
+            Theme::ErrorBetween => Wish { error_bit: true, ..turning() },
+            Theme::ResetAfterCrossing => Wish { action: Some(1), ..turning() },
+            Theme::ResetAboveZ => Wish { round_loop: Some(true), ..above_z() },
             Theme::Curve(curve) => Wish { linearization: Some(curve.into()), ..open },
             Theme::Analog(format) => Wish { analog: Some(format.into()), ..open },
             Theme::ActiveLow => Wish { active_low: true, ..open },
@@ -149,6 +174,13 @@ impl Theme {
             Theme::Format(format) => seen.formats[format as usize] > 0,
             Theme::Reverse => seen.reverse > 0,
             Theme::RoundLoop => seen.round_loop > 0,
+            Theme::CrossedForward => seen.turntable.told[turntable::FORWARD] > 0,
+            Theme::CrossedBackward => seen.turntable.told[turntable::BACKWARD] > 0,
+            Theme::HalfTurn(half) => seen.turntable.told[turntable::HALF_TURN + half as usize] > 0,
+            Theme::ErrorBetween => seen.turntable.told[turntable::ERROR_COUNTED] > 0,
+            Theme::ResetAfterCrossing => seen.turntable.told[turntable::P_STORED] > 0,
+            Theme::ResetAboveZ => seen.turntable.resets_above_z > 0,
+            Theme::OtherDistance => seen.turntable.other_distance > 0,
             Theme::Curve(curve) => seen.curves[curve as usize] > 0,
             Theme::Analog(format) => seen.analog_within[format as usize] > 0,
             Theme::ActiveLow => seen.active_low > 0,
@@ -175,6 +207,14 @@ impl Theme {
             Theme::Format(format) => format!("telegram format {format}"),
             Theme::Reverse => "reverse direction".into(),
             Theme::RoundLoop => "round loop".into(),
+            Theme::CrossedForward => "round loop, encoder's end crossed forward".into(),
+            Theme::CrossedBackward => "round loop, encoder's end crossed backward".into(),
+            Theme::HalfTurn(0) => "round loop, half a turn from the lower half".into(),
+            Theme::HalfTurn(_) => "round loop, half a turn from the upper half".into(),
+            Theme::ErrorBetween => "round loop, error 3 is not counted".into(),
+            Theme::ResetAfterCrossing => "round loop, reset after a crossing".into(),
+            Theme::ResetAboveZ => "round loop, reset with p above Z".into(),
+            Theme::OtherDistance => "round loop, other distance than by p alone".into(),
             Theme::Curve(curve) => format!("linearization {curve}"),
             Theme::Analog(format) => format!("analog format {format} within its limits"),
             Theme::ActiveLow => "active-low output".into(),
@@ -183,7 +223,21 @@ impl Theme {
     }
 }
 
-/// Results on both sides of Z (error 1) or −Z (error 2).
+/// Results on both sides of Z (error 1) or −Z (error 2, for which d must be negative).
 fn near_limit(error: u8) -> Wish {
-    Wish { limit: Some(if error == 1 { 1 } else { -1 }), linearization: Some(0), ..Wish::default() }
+    let open = Wish { linearization: Some(0), ..Wish::default() };
+    match error {
+        1 => Wish { limit: Some(1), ..open },
+        _ => Wish { limit: Some(-1), round_loop: Some(false), ..open },
+    }
+}
+
+/// K4: a round loop, and telegrams around the encoder's end.
+fn turning() -> Wish {
+    Wish { round_loop: Some(true), turns: true, ..Wish::default() }
+}
+
+/// A reset, and positions above Z.
+fn above_z() -> Wish {
+    Wish { width: Some(Width::Wide), action: Some(1), ..Wish::default() }
 }
