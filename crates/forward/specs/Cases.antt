@@ -9,6 +9,7 @@ use lib.IntN.{ℤ, pos, negsuc}
 use lib.ListN.{set}
 use Rattle.integers.specs.Choice.{some}
 use Rattle.integers.specs.Round.{roundDiv, floorMod}
+use Rattle.integers.specs.Worked.{Worked, case, AllWorked}
 use Rattle.measurement.specs.Curve as curve
 use Rattle.measurement.specs.Measure as measure
 use Rattle.parameters.specs.Load as load
@@ -86,14 +87,7 @@ got t w w′ = said (load.loadRefusal t) (slot.direction t) (slot.roundLoop t) (
 
 -- ---- the list: what the definitions give, and what is worked out by hand
 
-pub record Case : Type 0 where
-  pub is : Outcome
-  pub should : Outcome
-
-abbrev case : Outcome → Outcome → Case
-case g s = record { is = g; should = s }
-
-pub cases : List Case
+pub cases : List (Worked Outcome)
 cases =
     -- a falling y alone, a round loop alone, reverse alone: digits run back
     case (got falling 0 10) (said 0 0 0 true (gives 0 0 (pos 10)) (gives 10 0 (pos 0))) ∷
@@ -107,15 +101,7 @@ cases =
     case (got (set falling 13 (pos 0)) 0 10) (said 0 0 0 false (gives 0 0 (pos 0)) (gives 10 0 (pos 10))) ∷
     []
 
-abbrev outcomes : List Case → List Outcome
-outcomes [] = []
-outcomes (c ∷ cs) = c .is ∷ outcomes cs
-
-abbrev expected : List Case → List Outcome
-expected [] = []
-expected (c ∷ cs) = c .should ∷ expected cs
-
-pub checked : outcomes cases ≡ expected cases
+pub checked : AllWorked cases
 unfolding cases fallsAfter yFalls some load.loadRefusal load.conditions load.conflicts load.wordsMissing load.slotOut load.fieldWrong load.errorBitWrong load.spanEmpty load.notAbove load.pointsNotRising load.originMissing load.frozenByEdge load.freezeOnEdge load.differ load.differsFrom load.polaritiesDiffer search.firstOf row.outFrom row.inRange row.defaultTable row.defaultsFrom row.rowAt row.rowOf reading.directedAt reading.basisOf reading.measuredAt reading.readingOf settings.layoutOf settings.scalingOf settings.pointsOf ssi.errorReported ssi.positionOf measure.directedOf measure.distanceOf measure.scaledOf measure.judgedOf measure.usedPoints measure.valueOf measure.measuredOf curve.pointsFrom curve.rightOf curve.fourQuadrants curve.oneQuadrant curve.curve curve.linearizedOf roundDiv floorMod
 checked = refl
 

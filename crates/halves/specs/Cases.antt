@@ -1,6 +1,6 @@
 -- A mark matters, and "without error" is needed: telegrams at which the two firmwares differ, each with its marks, and telegrams at which they do not.
 -- One list of what the definitions give and what is worked out by hand, and one proof by computing. Request K7.
-use mathlib.Core.Path.{_≡_, refl}
+use mathlib.Core.Path.{refl}
 use mathlib.Core.Bool.{true, false}
 use mathlib.Core.List.{List, [], _∷_}
 use Prim.Native.Nat.{ℕ}
@@ -10,6 +10,7 @@ use Rattle.analog.specs.AnalogCode as analog
 use Rattle.events.specs.declared.Event.the-variants.{Telegram}
 use Rattle.integers.specs.Round.{roundDiv, halved, rounding}
 use Rattle.integers.specs.Upward.{roundUp}
+use Rattle.integers.specs.Worked.{Worked, case, AllWorked}
 use Rattle.measurement.specs.Curve as curve
 use Rattle.measurement.specs.Measure as measure
 use Rattle.panel.specs.declared.Answer.{Answer}
@@ -66,14 +67,7 @@ got t w =
     (answer t w .halves)
     (shown (measure.errorNumber (other.measuredUp t (reading.basisOf t w) .error)) (other.measuredUp t (reading.basisOf t w) .result) (other.codeUp (settings.spanOf t) (answer t w .result)))
 
-pub record Case : Type 0 where
-  pub is : Both
-  pub should : Both
-
-abbrev case : Both → Both → Case
-case i s = record { is = i; should = s }
-
-pub cases : List Case
+pub cases : List (Worked Both)
 cases =
     -- scaling, 1.5 and −1.5: both halves are marked, and the one below zero differs
     case (got (by (pos 0)) 1) (both (shown 0 (pos 2) (pos 7)) (halves true false false) (shown 0 (pos 2) (pos 7))) ∷
@@ -92,14 +86,6 @@ cases =
     case (got (set (by (pos 1)) 12 (negsuc 99999997)) 0) (both (shown 2 (pos 0) (pos 0)) (halves false false false) (shown 0 (negsuc 99999998) (pos 0))) ∷
     []
 
-abbrev given : List Case → List Both
-given [] = []
-given (c ∷ cs) = c .is ∷ given cs
-
-abbrev expected : List Case → List Both
-expected [] = []
-expected (c ∷ cs) = c .should ∷ expected cs
-
-pub checked : given cases ≡ expected cases
+pub checked : AllWorked cases
 unfolding cases state.freshOf step.stepOf step.onTelegram step.answerOf step.displayedOf step.switchedOf state.receivedOf state.rereadOf reading.acceptsOf reading.directedAt reading.basisOf follow.basisAfter reading.measuredAt reading.measurementAt reading.codeAt reading.codedAt reading.readingOf reading.marksOf reading.halvesOf settings.layoutOf settings.scalingOf settings.pointsOf settings.spanOf ssi.accepted ssi.errorReported ssi.positionOf measure.directedOf measure.distanceOf measure.scaledOf measure.scaledBy measure.judgedOf measure.usedPoints measure.valueOf measure.measuredOf measure.scalingHalf measure.lineHalf measure.measurementOf curve.pointsFrom curve.rightOf curve.fourQuadrants curve.curve curve.linearizedOf curve.linearizedBy roundDiv halved rounding roundUp analog.codeOf analog.codeHalf analog.codedOf analog.held other.scaledUp other.linearizedUp other.valueUp other.measuredUp other.codeUp row.defaultTable row.defaultsFrom row.rowAt row.rowOf
 checked = refl

@@ -5,6 +5,7 @@ pub mod Fraction
 pub mod TwosComplement
 pub mod Int
 pub mod Choice
+pub mod Worked
 pub mod ChoiceLaws
 pub mod TestLaws
 pub mod IntLaws

@@ -15,6 +15,7 @@ use Rattle.events.specs.declared.Event.{Event}
 use Rattle.events.specs.declared.Event.the-variants.{Telegram}
 use Rattle.integers.specs.Choice.{some}
 use Rattle.integers.specs.Round.{roundDiv, floorMod}
+use Rattle.integers.specs.Worked.{Worked, case, AllWorked}
 use Rattle.measurement.specs.Curve as curve
 use Rattle.measurement.specs.Measure as measure
 use Rattle.panel.specs.Step as step
@@ -117,47 +118,32 @@ lower t w = pos (drive.driveValue (lastAnswer t (Telegram w ∷ []) .drive) .den
 
 -- ---- the list: what the definitions give, and what the paper says
 
-pub record Place : Type 0 where
-  pub got : ℤ
-  pub said : ℤ
-
-abbrev place : ℤ → ℤ → Place
-place g s = record { got = g; said = s }
-
-pub places : List Place
+pub places : List (Worked ℤ)
 places =
     -- defaults: telegram hex 3 reads 2, D reads 9, 1000000 gives 33,554,431; 2000000 is refused, 11
-    place (result defaults 0x3) (pos 2) ∷ place (result defaults 0xd) (pos 9) ∷ place (result defaults 0x1000000) (pos 33554431) ∷ place (note defaults 0x2000000) (pos 11) ∷
+    case (result defaults 0x3) (pos 2) ∷ case (result defaults 0xd) (pos 9) ∷ case (result defaults 0x1000000) (pos 33554431) ∷ case (note defaults 0x2000000) (pos 11) ∷
     -- reverse, M = 2^25: 1 becomes 33,554,431, 0 remains 0
-    place (result reverse 1) (pos 33554431) ∷ place (result reverse 0) (pos 0) ∷
+    case (result reverse 1) (pos 33554431) ∷ case (result reverse 0) (pos 0) ∷
     -- O = 10, R = 360, p = 5: d = 355
-    place (result circle 5) (pos 355) ∷
+    case (result circle 5) (pos 355) ∷
     -- factor 150,000: d = 1, −1, 3 give 2, −2, 5. With A = −2, d = 1 gives 0
-    place (result withFactor 1) (pos 2) ∷ place (result (set withFactor 5 (pos 1)) 0) (negsuc 1) ∷ place (result withFactor 3) (pos 5) ∷ place (result (set withFactor 12 (negsuc 1)) 1) (pos 0) ∷
+    case (result withFactor 1) (pos 2) ∷ case (result (set withFactor 5 (pos 1)) 0) (negsuc 1) ∷ case (result withFactor 3) (pos 5) ∷ case (result (set withFactor 12 (negsuc 1)) 1) (pos 0) ∷
     -- four quadrants (−100, −50), (0, 0), (200, 300): v = 3, −1, 201, −150 give 5, −1, 300, −50
-    place (result fourPoints 3) (pos 5) ∷ place (result (set fourPoints 5 (pos 1)) 0) (negsuc 0) ∷ place (result fourPoints 201) (pos 300) ∷ place (result (set fourPoints 5 (pos 150)) 0) (negsuc 49) ∷
+    case (result fourPoints 3) (pos 5) ∷ case (result (set fourPoints 5 (pos 1)) 0) (negsuc 0) ∷ case (result fourPoints 201) (pos 300) ∷ case (result (set fourPoints 5 (pos 150)) 0) (negsuc 49) ∷
     -- N = H = 32, binary: p = 99,999,999 shows; 100,000,000 is error 1
-    place (shown wide 99999999) (pos 99999999) ∷ place (error wide 99999999) (pos 0) ∷ place (error wide 100000000) (pos 1) ∷
+    case (shown wide 99999999) (pos 99999999) ∷ case (error wide 99999999) (pos 0) ∷ case (error wide 100000000) (pos 1) ∷
     -- mode 3, P = 1,000, h = 10: 999, 1000, 990, 989 give off, on, on, off
-    place (on modeThree (Telegram 999 ∷ [])) (pos 0) ∷ place (on modeThree (Telegram 999 ∷ Telegram 1000 ∷ [])) (pos 1) ∷
-    place (on modeThree (Telegram 999 ∷ Telegram 1000 ∷ Telegram 990 ∷ [])) (pos 1) ∷ place (on modeThree (Telegram 999 ∷ Telegram 1000 ∷ Telegram 990 ∷ Telegram 989 ∷ [])) (pos 0) ∷
+    case (on modeThree (Telegram 999 ∷ [])) (pos 0) ∷ case (on modeThree (Telegram 999 ∷ Telegram 1000 ∷ [])) (pos 1) ∷
+    case (on modeThree (Telegram 999 ∷ Telegram 1000 ∷ Telegram 990 ∷ [])) (pos 1) ∷ case (on modeThree (Telegram 999 ∷ Telegram 1000 ∷ Telegram 990 ∷ Telegram 989 ∷ [])) (pos 0) ∷
     -- mode 5, P = 100, h = 5: on from 98 to 102
-    place (on modeFive (Telegram 97 ∷ [])) (pos 0) ∷ place (on modeFive (Telegram 98 ∷ [])) (pos 1) ∷ place (on modeFive (Telegram 99 ∷ [])) (pos 1) ∷ place (on modeFive (Telegram 100 ∷ [])) (pos 1) ∷
-    place (on modeFive (Telegram 101 ∷ [])) (pos 1) ∷ place (on modeFive (Telegram 102 ∷ [])) (pos 1) ∷ place (on modeFive (Telegram 103 ∷ [])) (pos 0) ∷
+    case (on modeFive (Telegram 97 ∷ [])) (pos 0) ∷ case (on modeFive (Telegram 98 ∷ [])) (pos 1) ∷ case (on modeFive (Telegram 99 ∷ [])) (pos 1) ∷ case (on modeFive (Telegram 100 ∷ [])) (pos 1) ∷
+    case (on modeFive (Telegram 101 ∷ [])) (pos 1) ∷ case (on modeFive (Telegram 102 ∷ [])) (pos 1) ∷ case (on modeFive (Telegram 103 ∷ [])) (pos 0) ∷
     -- defaults, r = 5,000: code 16,384, exactly 5 V. Format 2: 32,768, exactly 12 mA
-    place (code binary (result binary 5000)) (pos 16384) ∷ place (unit binary 5000) (pos 1) ∷ place (upper binary 5000) (pos 5) ∷ place (lower binary 5000) (pos 1) ∷
-    place (code formatTwo (result formatTwo 5000)) (pos 32768) ∷ place (unit formatTwo 5000) (pos 2) ∷ place (upper formatTwo 5000) (pos 12) ∷ place (lower formatTwo 5000) (pos 1) ∷
+    case (code binary (result binary 5000)) (pos 16384) ∷ case (unit binary 5000) (pos 1) ∷ case (upper binary 5000) (pos 5) ∷ case (lower binary 5000) (pos 1) ∷
+    case (code formatTwo (result formatTwo 5000)) (pos 32768) ∷ case (unit formatTwo 5000) (pos 2) ∷ case (upper formatTwo 5000) (pos 12) ∷ case (lower formatTwo 5000) (pos 1) ∷
     []
 
-abbrev gots : List Place → List ℤ
-gots [] = []
-gots (p ∷ ps) = p .got ∷ gots ps
-
-abbrev saids : List Place → List ℤ
-saids [] = []
-saids (p ∷ ps) = p .said ∷ saids ps
-
-pub checked : gots places ≡ saids places
+pub checked : AllWorked places
 unfolding places lastOf answersOf freshOf step.stepOf step.onTelegram step.answerOf step.displayedOf step.shownAfter step.switchedOf step.switchesAfter freeze.frozen freeze.freezes state.receivedOf state.rereadOf extremes.widenedOf reading.acceptsOf reading.directedAt reading.basisOf follow.basisAfter follow.followedOf follow.countAfter firstCount reading.measuredAt reading.codeAt reading.driveAt reading.readingOf settings.layoutOf settings.scalingOf settings.pointsOf settings.spanOf settings.inputAt settings.actionOf settings.configOf settings.preselectionOf settings.preselectionsOf ssi.accepted ssi.errorReported ssi.positionOf ssi.grayDecoded measure.directedOf measure.distanceOf measure.scaledOf measure.judgedOf measure.usedPoints measure.valueOf measure.measuredOf curve.pointsFrom curve.rightOf curve.fourQuadrants curve.oneQuadrant curve.curve curve.linearizedOf roundDiv floorMod row.defaultTable row.defaultsFrom row.rowAt row.rowOf switching.suppresses switching.releasedOf switching.heldOf switching.pulseOf switching.signalOf switching.activeOf switching.conditionedOf switching.lockedOf switching.switchedOf switching.partnerOf switching.switchedAt eachFrom condition.latchedOf condition.onAbove condition.onBelow condition.onNear condition.compared condition.against condition.ruleOf condition.conditionOf condition.exceeds analog.codeOf analog.held drive.driveOf drive.floatOf ofInt mul div add
 checked = refl
 
