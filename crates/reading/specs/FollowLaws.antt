@@ -1,5 +1,5 @@
 -- Laws of what a result starts from: without a round loop it is the telegram's alone; with one it stays below R; and error 3 is told by the telegram. Paper 02, K4.
-use mathlib.Core.Path.{_≡_, refl, sym, _∙_}
+use mathlib.Core.Path.{_≡_, refl, sym}
 use mathlib.Core.Bool.{true, false}
 use mathlib.Core.List.{List}
 use Prim.Native.Nat.{ℕ, _<_}

@@ -33,7 +33,7 @@ use Rattle.parameters.specs.Slots.{wordAt, offsetSlot, preselectionSlot}
 use Rattle.parameters.specs.StoreLaws.{word-stored, offset-stored, preselection-stored}
 use Rattle.parameters.specs.Valid.{Valid}
 use Rattle.parameters.specs.ValidLaws.{loads}
-use Rattle.registers.specs.Serve.{Served, slotIn, wordIn, sent, unchanged, writtenTable, carriedOut, writtenOf, requestOf, servedOf}
+use Rattle.registers.specs.Serve.{Served, wordIn, sent, unchanged, writtenTable, carriedOut, writtenOf, requestOf, servedOf}
 
 -- ---- every frame
 

@@ -12,12 +12,7 @@ use Rattle.integers.specs.RingLaws.{var, lit, neg, _⊕_, _⊖_, _⊗_, ring, r
 use Rattle.integers.specs.Round.{floorMod}
 use Rattle.integers.specs.FloorLaws.{floor-range, floor-split, same-rest}
 use Rattle.integers.specs.ModLaws.{floor-nat, rest-within, same-mod, mod-add, mod-nat, mod-below, mod-again}
-use Rattle.roundloop.specs.Count.{stepFrom, firstCount, countedOf}
-
--- −M/2 ≤ s < M/2
-pub record Short (M : ℕ) (s : ℤ) : Type 0 where
-  pub low : negℤ (pos M) ≤ℤ (pos 2 *ℤ s)
-  pub high : (pos 2 *ℤ s) <ℤ pos M
+use Rattle.roundloop.specs.Count.{half, Short, stepFrom, firstCount, countedOf}
 
 -- M is even, and above 0: a power of two from 2 on
 pub record Even (M : ℕ) : Type 0 where
@@ -51,7 +46,7 @@ module _ {M : ℕ} (m : Even M) where
       }
     where
       H : ℕ
-      H = M / 2
+      H = half M
 
       z : ℤ
       z = pos p -ℤ pos place +ℤ pos H
@@ -133,6 +128,6 @@ module _ (R : ℕ) (h : 0 < R) where
 pub step-within : (M place p : ℕ) → M ≤ 4294967296 → Within 4294967296 (stepFrom M place p)
 unfolding stepFrom
 step-within M place p h =
-    let r = rest-within (pos p -ℤ pos place +ℤ pos (M / 2)) M in
-    let f : ℤ = floorMod (pos p -ℤ pos place +ℤ pos (M / 2)) (pos M) in
-    within 4294967296 (f -ℤ pos (M / 2)) (omega (arith, sub-is f (pos (M / 2)), r .0, r .1)) (omega (arith, sub-is f (pos (M / 2)), r .0, r .1))
+    let r = rest-within (pos p -ℤ pos place +ℤ pos (half M)) M in
+    let f : ℤ = floorMod (pos p -ℤ pos place +ℤ pos (half M)) (pos M) in
+    within 4294967296 (f -ℤ pos (half M)) (omega (arith, sub-is f (pos (half M)), r .0, r .1)) (omega (arith, sub-is f (pos (half M)), r .0, r .1))

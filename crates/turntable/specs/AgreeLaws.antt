@@ -1,30 +1,29 @@
 -- WHERE M IS A MULTIPLE OF R, OLD AND NEW RULE AGREE: the new panel's count is the old one's position modulo R, their offsets are equal modulo R, so the distances are
 -- equal, and with them all that follows. Commands move both alike, since a reset that 13 leaves is refused by neither. Paper 02, K4.
 use mathlib.Core.Path.{_≡_, refl, sym, ap, subst, _∙_}
-use mathlib.Core.Bool.{Bool, true, false, cond, not, _&&_, _||_}
+use mathlib.Core.Bool.{Bool, true, false, cond, not, _&&_}
 use mathlib.Core.List.{List, [], _∷_}
-use Prim.Native.Nat.{ℕ, zero, suc, _*_, _%_, _≤_, _<_}
+use Prim.Native.Nat.{ℕ, zero, suc, _*_, _≤_, _<_}
 use native.Mathlib.Decide.{ℕ-discrete}
 use native.Mathlib.Nat.{mod-eq-of-lt}
 use native.Mathlib.Omega.{arith}
 use borrow.Author.Tests.{ne-eqb, le-ltb}
 use lib.Dec.{T, eqb, ltb, leb}
-use lib.IntN.{ℤ, pos, _-ℤ_}
+use lib.IntN.{ℤ, pos}
 use lib.ListN.{length, length-set}
 use Rattle.events.specs.declared.Event.{Event}
 use Rattle.events.specs.declared.Event.the-variants.{Telegram, Levels, Tick}
-use Rattle.inputs.specs.Commands.{Acted, acted, resetRefusal, resetOf, clearLocksOf, extremesAt, clearExtremesOf, teachRefusal, teachOf, refusalOf, carriedOut, marksAfter, commandOf}
+use Rattle.inputs.specs.Commands.{Acted, acted, resetRefusal, resetOf, clearLocksOf, extremesAt, clearExtremesOf, teachOf, refusalOf, carriedOut, marksAfter, commandOf}
 use Rattle.inputs.specs.CommandLaws.{good-input, input-aimed}
 use Rattle.inputs.specs.Freeze.{frozen}
 use Rattle.inputs.specs.Levels.{edgeAt, inputOf, marksAt, commandsOf, marksLeft}
-use Rattle.integers.specs.ChoiceLaws.{by-test, is-true, is-false}
+use Rattle.integers.specs.ChoiceLaws.{by-test, is-true}
 use Rattle.integers.specs.Int.{P}
 use Rattle.integers.specs.Limit.{Z}
 use Rattle.integers.specs.ModLaws.{floor-nat, mod-sub, mod-below, mod-again}
 use Rattle.integers.specs.Round.{rounding, floorMod}
 use Rattle.integers.specs.TestLaws.{or-both, and-second}
 use Rattle.measurement.specs.declared.Error.the-variants as Error
-use Rattle.measurement.specs.declared.Measured.{Measured}
 use Rattle.measurement.specs.declared.Measurement.{Measurement}
 use Rattle.measurement.specs.declared.Scaling.{Scaling}
 use Rattle.measurement.specs.Curve.{linearizedBy}
@@ -34,7 +33,7 @@ use Rattle.panel.specs.Step.{answerOf, switchesAfter, switchedOf, shownAfter, d
 use Rattle.panel.specs.ValidLaws.{good-step}
 use Rattle.parameters.specs.Alike.{Alike, storedSlot}
 use Rattle.parameters.specs.RangeLaws.{round-loop-range}
-use Rattle.parameters.specs.Slots.{wordAt, natAt, offsetSlot, preselectionSlot, offset, roundLoop, preselection, withOffset, withPreselection}
+use Rattle.parameters.specs.Slots.{natAt, offsetSlot, preselectionSlot, offset, roundLoop, preselection, withOffset, withPreselection}
 use Rattle.parameters.specs.StoreLaws.{word-stored, word-kept, alike-refl, alike-sym, alike-trans, offset-alike, preselection-alike, stored-layout, stored-scaling, stored-span, stored-points, stored-input, stored-preselection}
 use Rattle.parameters.specs.Valid.{Valid}
 use Rattle.parameters.specs.ValidLaws.{loads}
@@ -42,23 +41,23 @@ use Rattle.reading.specs.declared.Basis.{Basis}
 use Rattle.reading.specs.AlikeLaws.{accepts-alike, directed-alike}
 use Rattle.reading.specs.Follow.{countAfter, followedOf, heldOf, basisAfter}
 use Rattle.reading.specs.FollowLaws.{by-follow}
-use Rattle.reading.specs.Reading.{acceptsOf, directedAt, basisOf, measuredAt, measurementAt, codedAt, readingOf, noHalves, marksOf, halvesOf}
+use Rattle.reading.specs.Reading.{acceptsOf, directedAt, basisOf, measuredAt, measurementAt, readingOf, noHalves, marksOf, halvesOf}
 use Rattle.reading.specs.ReadingLaws.{reading-bit}
-use Rattle.roundloop.specs.CountLaws.{Even, first-is, counted-place}
+use Rattle.roundloop.specs.CountLaws.{first-is, counted-place}
 use Rattle.runs.specs.KeptLaws.{Kept, kept-fresh, kept-input, kept-step}
 use Rattle.runs.specs.Run.{answersOf}
 use Rattle.settings.specs.declared.Action.{Action}
 use Rattle.settings.specs.declared.Action.the-variants.{None, Reset, Freeze, ClearLocks, ClearExtremes, Teach}
 use Rattle.settings.specs.AlikeLaws.{layout-alike, loop-alike, points-alike, span-alike, input-alike, preselections-alike}
 use Rattle.settings.specs.Settings.{isReset, Aimed, layoutOf, scalingOf, pointsOf, spanOf, preselectionsOf, inputAt}
-use Rattle.ssi.specs.Telegram.{errorReported, modulus}
+use Rattle.ssi.specs.Telegram.{errorReported}
 use Rattle.state.specs.declared.State.{State}
 use Rattle.state.specs.State.{freshOf, withTable, withBasis, withLevels, withSwitches, errorOf, halvesIn, rereadOf, receivedOf}
 use Rattle.reading.specs.declared.Reading.{Reading}
-use Rattle.state.specs.Extremes.{errorIn, widenedOf}
+use Rattle.state.specs.Extremes.{errorIn}
 use Rattle.state.specs.Valid.{Good}
 use Rattle.state.specs.ValidLaws.{good-fresh}
-use Rattle.switching.specs.Switching.{allUnlocked, allTicked}
+use Rattle.switching.specs.Switching.{allTicked}
 use Rattle.turntable.specs.OldRule.{oldReceived, oldTelegram, oldStep, oldAnswers, barredAt, barredBy, barredIn}
 use Rattle.turntable.specs.Turntable.{positions, Same, AllSame, RulesAgree}
 use Rattle.turntable.specs.TravelledLaws.{modulus-even}

@@ -1,17 +1,17 @@
 -- With a round loop the count stays below R in every state of a run, so 12 never refuses a reset. Paper 02, K4.
-use mathlib.Core.Path.{_≡_, refl, ap, _∙_}
-use mathlib.Core.Bool.{Bool, true, false, cond, not, _&&_, _||_}
+use mathlib.Core.Path.{_≡_, refl}
+use mathlib.Core.Bool.{Bool, true, false, not, _&&_, _||_}
 use mathlib.Core.List.{List, [], _∷_}
 use Prim.Native.Nat.{ℕ, _≤_, _<_}
 use native.Mathlib.Omega.{arith}
 use borrow.Author.Tests.{le-ltb}
-use lib.Dec.{T, eqb, ltb, leb}
+use lib.Dec.{eqb, ltb, leb}
 use lib.IntN.{ℤ}
 use Rattle.events.specs.declared.Event.{Event}
 use Rattle.events.specs.declared.Event.the-variants.{Telegram, Levels, Tick}
 use Rattle.inputs.specs.Commands.{Acted, acted, resetRefusal, resetOf, clearLocksOf, clearExtremesOf, teachRefusal, teachOf, refusalOf, commandOf}
 use Rattle.inputs.specs.CommandLaws.{by-command, by-input, input-aimed}
-use Rattle.inputs.specs.Levels.{edgeAt, firstNote, inputActs, inputOf, commandsOf}
+use Rattle.inputs.specs.Levels.{edgeAt, inputActs, inputOf, commandsOf}
 use Rattle.integers.specs.ChoiceLaws.{by-test}
 use Rattle.integers.specs.Limit.{Z}
 use Rattle.panel.specs.declared.Answer.{Answer}

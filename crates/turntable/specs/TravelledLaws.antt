@@ -2,7 +2,7 @@
 use mathlib.Core.Path.{_≡_, refl, sym, ap, _∙_}
 use mathlib.Core.Bool.{Bool, true, false, cond, not, _&&_}
 use mathlib.Core.List.{List, [], _∷_}
-use Prim.Native.Nat.{ℕ, zero, suc, _+_, _-_, _*_, _/_, _^_, _<_}
+use Prim.Native.Nat.{ℕ, suc, _+_, _-_, _^_, _<_}
 use native.Mathlib.Nat.{pow-suc}
 use native.Mathlib.Numerals.{add-one}
 use native.Mathlib.Omega.{arith}
@@ -18,10 +18,10 @@ use Rattle.integers.specs.Round.{floorMod}
 use Rattle.parameters.specs.Slots.{roundLoop}
 use Rattle.parameters.specs.ValidLaws.{loads}
 use Rattle.reading.specs.declared.Basis.{Basis}
-use Rattle.reading.specs.Follow.{noBasis, countAfter, followedOf, heldOf, basisAfter}
+use Rattle.reading.specs.Follow.{noBasis, countAfter, followedOf, heldOf}
 use Rattle.reading.specs.FollowLaws.{by-follow}
 use Rattle.reading.specs.Reading.{acceptsOf, directedAt}
-use Rattle.roundloop.specs.Count.{stepFrom, countedOf}
+use Rattle.roundloop.specs.Count.{countedOf}
 use Rattle.roundloop.specs.CountLaws.{Even, step-moved, first-is, counted-is}
 use Rattle.runs.specs.Book.{Book, freshBook, takes, turnsTo, movesTo, resets, bookInput, bookStep, bookFrom, bookOf}
 use Rattle.runs.specs.BookLaws.{book-run, book-fresh}
@@ -29,7 +29,7 @@ use Rattle.runs.specs.KeptLaws.{kept-fresh}
 use Rattle.runs.specs.Run.{runOf}
 use Rattle.settings.specs.Settings.{layoutOf}
 use Rattle.ssi.specs.declared.Layout.{Layout}
-use Rattle.ssi.specs.Telegram.{errorReported, widthOf, modulus}
+use Rattle.ssi.specs.Telegram.{errorReported, modulus}
 use Rattle.state.specs.State.{freshOf}
 use Rattle.state.specs.ValidLaws.{good-fresh}
 use Rattle.turntable.specs.Turntable.{positions, counts, placesIn, placesAfter, AllShort, together, AllTravelled}

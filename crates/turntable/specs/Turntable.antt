@@ -18,7 +18,7 @@ use Rattle.panel.specs.Step.{stepOf}
 use Rattle.parameters.specs.Load.{loadRefusal}
 use Rattle.parameters.specs.Slots.{roundLoop}
 use Rattle.reading.specs.Reading.{acceptsOf, directedAt}
-use Rattle.roundloop.specs.CountLaws.{Short}
+use Rattle.roundloop.specs.Count.{Short}
 use Rattle.runs.specs.Book.{bookOf}
 use Rattle.runs.specs.Run.{runOf, answersOf}
 use Rattle.settings.specs.Settings.{layoutOf}
