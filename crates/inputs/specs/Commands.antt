@@ -30,7 +30,7 @@ acted s n = record { state = s; note = n }
 abbrev pub leftBy : List ℤ → Outcome → Acted
 leftBy t o = acted (stateOf t (o .live)) (o .note)
 
--- 13: reset with no telegram yet or under error 3; then 12: p after direction above Z. K4: the count U never is (`turntable`, no-12)
+-- 13: reset with no telegram yet or under error 3; then 12: p after direction above Z. K4: the count U never is (`no-twelve` of turntable)
 unfoldable pub resetRefusal : Bool → ℕ → ℕ → ℕ
 resetRefusal seen error start = cond (not seen || eqb error 3) 13 (cond (ltb Z start) 12 0)
 

@@ -83,6 +83,10 @@ floor-only a r k m h e hm hm′ =
     let f = floor-range a r h in
     same-rest k (shrZ a (P r)) m (floorMod a r) r hm hm′ (f .0) (f .1) (sym e ∙ floor-split a r h)
 
+-- a number from 0 to r - 1 is its own
+pub floor-small : (a r : ℤ) → pos 0 ≤ℤ a → a <ℤ r → a ≡ floorMod a r
+floor-small a r h k = floor-only a r (pos 0) a (omega (arith, ints)) (ring (var a) (lit 0 ⊗ var r ⊕ var a) (omega arith)) h k
+
 -- the only quotient rounded down
 pub floor-is : (a : ℤ) (r : ℕ) (q : ℤ) → 0 < r → (q *ℤ pos r) ≤ℤ a → a <ℤ (q *ℤ pos r +ℤ pos r) → shrZ a r ≡ q
 floor-is a r q hr low high = go (leZ k q) (leZ q k) refl refl

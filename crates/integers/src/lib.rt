@@ -47,8 +47,8 @@ pub fn round_div(n: i64, d: i64) -> Rounded
     Rounded { value: q, half }
 }
 
-// d modulo r, from 0 to r - 1; 0 where r is not above 0.
-pub fn floor_rem(d: i64, r: i64) -> i64
+// d modulo r by division.
+fn divided(d: i64, r: i64) -> i64
     ensures { λ m. ⌜ m ≡ floorMod d r ⌝ }
 {
     if r <= 0 {
@@ -56,4 +56,16 @@ pub fn floor_rem(d: i64, r: i64) -> i64
     }
     let m = d % r;
     if m < 0 { m + r } else { m }
+}
+
+// d modulo r, from 0 to r - 1; 0 where r is not above 0. A number that is in that range already is not divided.
+pub fn floor_rem(d: i64, r: i64) -> i64
+    ensures { λ m. ⌜ m ≡ floorMod d r ⌝ }
+{
+    if 0 <= d {
+        if d < r {
+            return d;
+        }
+    }
+    divided(d, r)
 }

@@ -1,5 +1,5 @@
--- Tables alike outside some slots read alike where these miss the settings of a reading: behind the same basis a telegram gives the same basis, and with the same offset a basis gives
--- the same reading and the same curve.
+-- Tables alike outside some slots read alike where these miss the settings of a reading: behind the same basis a telegram gives the same basis, and with the same
+-- offset a basis gives the same reading and the same curve.
 use mathlib.Core.Path.{_≡_}
 use mathlib.Core.Bool.{Bool, true}
 use mathlib.Core.List.{List}

@@ -7,7 +7,7 @@ use Prim.Native.Nat.{ℕ, zero, suc, _*_, _≤_, _<_}
 use native.Mathlib.Decide.{ℕ-discrete}
 use native.Mathlib.Nat.{mod-eq-of-lt}
 use native.Mathlib.Omega.{arith}
-use borrow.Author.Tests.{ne-eqb, le-ltb}
+use borrow.Author.Tests.{le-ltb}
 use lib.Dec.{T, eqb, ltb, leb}
 use lib.IntN.{ℤ, pos}
 use lib.ListN.{length, length-set}
@@ -15,41 +15,34 @@ use Rattle.events.specs.declared.Event.{Event}
 use Rattle.events.specs.declared.Event.the-variants.{Telegram, Levels, Tick}
 use Rattle.inputs.specs.Commands.{Acted, acted, resetRefusal, resetOf, clearLocksOf, extremesAt, clearExtremesOf, teachOf, refusalOf, carriedOut, marksAfter, commandOf}
 use Rattle.inputs.specs.CommandLaws.{good-input, input-aimed}
-use Rattle.inputs.specs.Freeze.{frozen}
 use Rattle.inputs.specs.Levels.{edgeAt, inputOf, marksAt, commandsOf, marksLeft}
 use Rattle.integers.specs.ChoiceLaws.{by-test, is-true}
 use Rattle.integers.specs.Int.{P}
 use Rattle.integers.specs.Limit.{Z}
-use Rattle.integers.specs.ModLaws.{floor-nat, mod-sub, mod-below, mod-again}
-use Rattle.integers.specs.Round.{rounding, floorMod}
+use Rattle.integers.specs.ModLaws.{floor-nat, mod-below, mod-again}
+use Rattle.integers.specs.Round.{floorMod}
 use Rattle.integers.specs.TestLaws.{or-both, and-second}
-use Rattle.measurement.specs.declared.Error.the-variants as Error
-use Rattle.measurement.specs.declared.Measurement.{Measurement}
-use Rattle.measurement.specs.declared.Scaling.{Scaling}
-use Rattle.measurement.specs.Curve.{linearizedBy}
-use Rattle.measurement.specs.Measure.{measured, distanceOf, distanceAt, scaledAt, scaledBy, judgedOf, usedPoints, valueOf, measuredOf, scalingHalf, lineHalf, measurementOf}
 use Rattle.panel.specs.declared.Answer.{Answer}
-use Rattle.panel.specs.Step.{answerOf, switchesAfter, switchedOf, shownAfter, displayedOf, settledOf, onTelegram, onLevels, onTick, stepOf}
+use Rattle.panel.specs.Step.{answerOf, onTelegram, onLevels, onTick, stepOf}
 use Rattle.panel.specs.ValidLaws.{good-step}
-use Rattle.parameters.specs.Alike.{Alike, storedSlot}
 use Rattle.parameters.specs.RangeLaws.{round-loop-range}
-use Rattle.parameters.specs.Slots.{natAt, offsetSlot, preselectionSlot, offset, roundLoop, preselection, withOffset, withPreselection}
-use Rattle.parameters.specs.StoreLaws.{word-stored, word-kept, alike-refl, alike-sym, alike-trans, offset-alike, preselection-alike, stored-layout, stored-scaling, stored-span, stored-points, stored-input, stored-preselection}
+use Rattle.parameters.specs.Slots.{offsetSlot, preselectionSlot, roundLoop, preselection, withOffset, withPreselection}
+use Rattle.parameters.specs.StoreLaws.{word-stored, word-kept, alike-refl, alike-sym, alike-trans, offset-alike, preselection-alike, stored-layout, stored-scaling}
 use Rattle.parameters.specs.Valid.{Valid}
 use Rattle.parameters.specs.ValidLaws.{loads}
 use Rattle.reading.specs.declared.Basis.{Basis}
 use Rattle.reading.specs.AlikeLaws.{accepts-alike, directed-alike}
 use Rattle.reading.specs.Follow.{countAfter, followedOf, heldOf, basisAfter}
 use Rattle.reading.specs.FollowLaws.{by-follow}
-use Rattle.reading.specs.Reading.{acceptsOf, directedAt, basisOf, measuredAt, measurementAt, readingOf, noHalves, marksOf, halvesOf}
+use Rattle.reading.specs.Reading.{acceptsOf, directedAt, basisOf, noHalves}
 use Rattle.reading.specs.ReadingLaws.{reading-bit}
 use Rattle.roundloop.specs.CountLaws.{first-is, counted-place}
 use Rattle.runs.specs.KeptLaws.{Kept, kept-fresh, kept-input, kept-step}
 use Rattle.runs.specs.Run.{answersOf}
 use Rattle.settings.specs.declared.Action.{Action}
 use Rattle.settings.specs.declared.Action.the-variants.{None, Reset, Freeze, ClearLocks, ClearExtremes, Teach}
-use Rattle.settings.specs.AlikeLaws.{layout-alike, loop-alike, points-alike, span-alike, input-alike, preselections-alike}
-use Rattle.settings.specs.Settings.{isReset, Aimed, layoutOf, scalingOf, pointsOf, spanOf, preselectionsOf, inputAt}
+use Rattle.settings.specs.AlikeLaws.{layout-alike, loop-alike}
+use Rattle.settings.specs.Settings.{isReset, Aimed, layoutOf, inputAt}
 use Rattle.ssi.specs.Telegram.{errorReported}
 use Rattle.state.specs.declared.State.{State}
 use Rattle.state.specs.State.{freshOf, withTable, withBasis, withLevels, withSwitches, errorOf, halvesIn, rereadOf, receivedOf}
@@ -61,201 +54,7 @@ use Rattle.switching.specs.Switching.{allTicked}
 use Rattle.turntable.specs.OldRule.{oldReceived, oldTelegram, oldStep, oldAnswers, barredAt, barredBy, barredIn}
 use Rattle.turntable.specs.Turntable.{positions, Same, AllSame, RulesAgree}
 use Rattle.turntable.specs.TravelledLaws.{modulus-even}
-
--- two choices by one test
-both : {A B : Type 0} (c : Bool) (x y : A) (x′ y′ : B) (Q : A → B → Type 0) → (T c → Q x x′) → (T (not c) → Q y y′) → Q (cond c x y) (cond c x′ y′)
-both true x y x′ y′ Q f g = f tt
-both false x y x′ y′ Q f g = g tt
-
--- ---- numbers: a count, and a position that it is modulo R
-
-distance-tied : (R : ℕ) → 0 < R → (u p : ℕ) (O O′ : ℤ) → pos u ≡ floorMod (pos p) (pos R) → floorMod O (pos R) ≡ floorMod O′ (pos R) → distanceOf u O R ≡ distanceOf p O′ R
-unfolding distanceOf
-distance-tied R h u p O O′ e f =
-    rw (ne-eqb R 0 (λ z. omega arith)) (mod-sub R h (pos u) (pos p) O O′ (ap (λ (z : ℤ). floorMod z (pos R)) e ∙ mod-again R h (pos p)) f)
-
--- two scalings that differ in the offset alone read alike where the distances are equal
-record Scalings (a b : Scaling) : Type 0 where
-  factor : a .factor ≡ b .factor
-  divider : a .divider ≡ b .divider
-  additive : a .additive ≡ b .additive
-  linearization : a .linearization ≡ b .linearization
-  used : a .used ≡ b .used
-
-module _ {a b : Scaling} (x : Scalings a b) (ws : List ℤ) (u p : ℕ) (e : distanceAt a u ≡ distanceAt b p) where
-  scaled-tied : scaledAt a u ≡ scaledAt b p
-  scaled-tied = rw (e, x .factor, x .divider, x .additive)
-
-  scaling-tied : scalingHalf a u ≡ scalingHalf b p
-  unfolding scalingHalf scaledBy
-  scaling-tied = rw (e, x .factor, x .divider)
-
-  value-tied : valueOf a ws u ≡ valueOf b ws p
-  unfolding valueOf usedPoints
-  value-tied = rw (scaled-tied, x .linearization, x .used)
-
-  line-tied : lineHalf a ws u ≡ lineHalf b ws p
-  unfolding lineHalf usedPoints linearizedBy rounding
-  line-tied = rw (scaled-tied, x .linearization, x .used)
-
-  measurement-tied : (reported : Bool) → measurementOf a ws u reported ≡ measurementOf b ws p reported
-  unfolding measurementOf measuredOf
-  measurement-tied reported = rw (value-tied, scaling-tied, line-tied)
-
--- ---- tables and bases
-
--- alike but for the offset, and there equal modulo R
-record Tables (R : ℕ) (s o : List ℤ) : Type 0 where
-  alike : Alike storedSlot s o
-  long : length s ≡ length o
-  held : (k : ℕ) → k < 4 → preselection s k ≡ preselection o k
-  offsets : floorMod (offset s) (pos R) ≡ floorMod (offset o) (pos R)
-
--- the count is what it was last counted from modulo R, and without error 3 the old position modulo R
-record Bases (R : ℕ) (b o : Basis) : Type 0 where
-  reported : b .reported ≡ o .reported
-  count : T (b .counted) → pos (b .start) ≡ floorMod (pos (b .place)) (pos R)
-  start : b .reported ≡ false → pos (b .start) ≡ floorMod (pos (o .start)) (pos R)
-
--- under error 3 nothing of the basis matters
-faulty-measured : (t : List ℤ) (b : Basis) → b .reported ≡ true → measuredAt t b ≡ measured (pos 0) Error.ErrorBit
-unfolding measuredAt measuredOf judgedOf
-faulty-measured t b e = rw e
-
-faulty-halves : (t : List ℤ) (b : Basis) → b .reported ≡ true → halvesOf t b ≡ noHalves
-unfolding halvesOf marksOf measurementAt measurementOf measuredOf judgedOf
-faulty-halves t b e = rw e
-
-measured-in : (t : List ℤ) (b : Basis) → measurementAt t b .measured ≡ measuredAt t b
-unfolding measurementAt measurementOf measuredAt
-measured-in t b = refl
-
-module _ (R : ℕ) (h : 0 < R) {s o : List ℤ} (x : Tables R s o) (loop : roundLoop s ≡ R) where
-  number : (n : ℕ) → storedSlot n ≡ false → natAt s n ≡ natAt o n
-  number n e = rw (x .alike .same n e)
-
-  points-tied : pointsOf s ≡ pointsOf o
-  points-tied = points-alike (x .alike) (x .long) stored-points
-
-  span-tied : spanOf s ≡ spanOf o
-  span-tied = span-alike (x .alike) stored-span
-
-  scalings : Scalings (scalingOf s) (scalingOf o)
-  unfolding scalingOf
-  scalings = record { factor = number 10 refl; divider = number 11 refl; additive = x .alike .same 12 refl; linearization = number 13 refl; used = number 55 refl }
-
-  distances : (u p : ℕ) → pos u ≡ floorMod (pos p) (pos R) → distanceAt (scalingOf s) u ≡ distanceAt (scalingOf o) p
-  unfolding scalingOf
-  distances u p e = rw (loop, sym (number 7 refl) ∙ loop) (distance-tied R h u p (offset s) (offset o) e (x .offsets))
-
-  measurement-at : {b c : Basis} → Bases R b c → b .reported ≡ false → measurementAt s b ≡ measurementAt o c
-  unfolding measurementAt
-  measurement-at {b} {c} y e =
-      rw (points-tied, y .reported) (measurement-tied scalings (pointsOf o) (b .start) (c .start) (distances (b .start) (c .start) (y .start e)) (c .reported))
-
-  measured-tied : {b c : Basis} → Bases R b c → measuredAt s b ≡ measuredAt o c
-  measured-tied {b} {c} y = go (b .reported) refl
-    where
-      go : (r : Bool) → b .reported ≡ r → measuredAt s b ≡ measuredAt o c
-      go true e = faulty-measured s b e ∙ sym (faulty-measured o c (sym (y .reported) ∙ e))
-      go false e = sym (measured-in s b) ∙ ap (λ (z : Measurement). z .measured) (measurement-at y e) ∙ measured-in o c
-
-  reading-tied : {b c : Basis} → Bases R b c → readingOf s b ≡ readingOf o c
-  unfolding readingOf
-  reading-tied y = rw (measured-tied y, span-tied)
-
-  halves-same : {b c : Basis} → Bases R b c → b .reported ≡ false → halvesOf s b ≡ halvesOf o c
-  unfolding halvesOf
-  halves-same y e = rw (measurement-at y e, measured-tied y, span-tied)
-
-  halves-tied : {b c : Basis} → Bases R b c → halvesOf s b ≡ halvesOf o c
-  halves-tied {b} {c} y = go (b .reported) refl
-    where
-      go : (r : Bool) → b .reported ≡ r → halvesOf s b ≡ halvesOf o c
-      go true e = faulty-halves s b e ∙ sym (faulty-halves o c (sym (y .reported) ∙ e))
-      go false e = halves-same y e
-
--- ---- states
-
--- all that an answer tells is equal
-record Tied (R : ℕ) (s o : State) : Type 0 where
-  tables : Tables R (s .table) (o .table)
-  basis : Bases R (s .live .basis) (o .live .basis)
-  levels : s .live .levels ≡ o .live .levels
-  seen : s .live .seen ≡ o .live .seen
-  reading : s .live .reading ≡ o .live .reading
-  shown : s .live .shown ≡ o .live .shown
-  extremes : s .live .extremes ≡ o .live .extremes
-  switches : s .live .switches ≡ o .live .switches
-
-module _ {R : ℕ} {s o : List ℤ} (x : Tables R s o) where
-  preselections-tied : preselectionsOf s ≡ preselectionsOf o
-  preselections-tied = preselections-alike (x .alike) stored-preselection (x .held)
-
-  inputs-tied : (i : ℕ) → i < 3 → inputAt s i ≡ inputAt o i
-  inputs-tied i h = input-alike (x .alike) i (stored-input i h)
-
-  frozen-tied : (l : ℕ) → frozen s l ≡ frozen o l
-  unfolding frozen
-  frozen-tied l = rw (inputs-tied 0 (omega arith), inputs-tied 1 (omega arith), inputs-tied 2 (omega arith))
-
-module _ {R : ℕ} {s o : State} (x : Tied R s o) where
-  shown-tied : shownAfter (s .table) (s .live .levels) (s .live .shown) (s .live .reading .result) ≡ shownAfter (o .table) (o .live .levels) (o .live .shown) (o .live .reading .result)
-  unfolding shownAfter
-  shown-tied = rw (frozen-tied (x .tables) (s .live .levels), x .levels, x .shown, x .reading)
-
-  switches-tied :
-      switchesAfter (s .live .seen) (s .table) (s .live .reading .result) (s .live .switches) ≡ switchesAfter (o .live .seen) (o .table) (o .live .reading .result) (o .live .switches)
-  unfolding switchesAfter
-  switches-tied = rw (preselections-tied (x .tables), x .seen, x .reading, x .switches)
-
-  settled-tied : Tied R (settledOf s) (settledOf o)
-  unfolding displayedOf switchedOf
-  settled-tied =
-      record {
-        tables = x .tables;
-        basis = x .basis;
-        levels = x .levels;
-        seen = x .seen;
-        reading = x .reading;
-        shown = shown-tied;
-        extremes = x .extremes;
-        switches = switches-tied;
-      }
-
-  answer-tied : (note note′ halves halves′ : ℕ) → note ≡ note′ → halves ≡ halves′ → Same (answerOf s note halves) (answerOf o note′ halves′)
-  unfolding answerOf
-  answer-tied note note′ halves halves′ e f =
-      record {
-        result = rw (x .reading);
-        shown = x .shown;
-        error = rw (x .reading);
-        code = rw (x .reading);
-        drive = rw (x .reading);
-        switches = x .switches;
-        outputs = rw (preselections-tied (x .tables), x .switches);
-        extremes = x .extremes;
-        note = e;
-        halves = f;
-      }
-
--- the result worked out again
-reread-tied : {R : ℕ} → 0 < R → (s o : State) → roundLoop (s .table) ≡ R → Tables R (s .table) (o .table) → Bases R (s .live .basis) (o .live .basis) →
-    s .live .levels ≡ o .live .levels → s .live .seen ≡ o .live .seen → s .live .shown ≡ o .live .shown → s .live .extremes ≡ o .live .extremes →
-    s .live .switches ≡ o .live .switches → Tied R (rereadOf s) (rereadOf o)
-unfolding rereadOf
-reread-tied {R} h s o loop tables basis levels seen shown extremes switches =
-    let e : readingOf (s .table) (s .live .basis) ≡ readingOf (o .table) (o .live .basis) = reading-tied R h tables loop basis in
-    record {
-      tables = tables;
-      basis = basis;
-      levels = levels;
-      seen = seen;
-      reading = e;
-      shown = shown;
-      extremes = rw (extremes, e);
-      switches = switches;
-    }
+use Rattle.turntable.specs.TiedLaws.{both, Tables, Bases, Tied, tied, halves-tied, inputs-tied, settled-tied, answer-tied, reread-tied}
 
 -- ---- a table that loads, with M a multiple of its R
 
@@ -273,16 +72,8 @@ module _ {t : List ℤ} (v : Valid t) (h : 0 < roundLoop t) (c : ℕ) (multiple 
   fresh-tied : Ties (freshOf t) (freshOf t)
   unfolding freshOf
   fresh-tied =
-      record {
-        tables = record { alike = alike-refl t; long = refl; held = λ k _. refl; offsets = refl };
-        basis = record { reported = refl; count = λ n. absurd n; start = λ _. ap pos (sym (mod-eq-of-lt h)) ∙ sym (floor-nat 0 R h) };
-        levels = refl;
-        seen = refl;
-        reading = refl;
-        shown = refl;
-        extremes = refl;
-        switches = refl;
-      }
+      tied (record { alike = alike-refl t; long = refl; held = λ k _. refl; offsets = refl })
+      (record { reported = refl; count = λ n. absurd n; start = λ _. ap pos (sym (mod-eq-of-lt h)) ∙ sym (floor-nat 0 R h) }) refl refl refl refl refl refl
 
   -- ---- a telegram
 
@@ -318,13 +109,18 @@ module _ {t : List ℤ} (v : Valid t) (h : 0 < roundLoop t) (c : ℕ) (multiple 
     received-tied : (w : ℕ) → Ties (receivedOf s w) (oldReceived o w)
     unfolding receivedOf oldReceived
     received-tied w =
-        reread-tied h (withBasis s (basisAfter (s .table) (s .live .basis) w)) (withBasis o (basisOf (o .table) w)) (loop-kept k) (x .tables) (bases w) (x .levels) refl (x .shown) (x .extremes) (x .switches)
+        reread-tied h (withBasis s (basisAfter (s .table) (s .live .basis) w)) (withBasis o (basisOf (o .table) w)) (loop-kept k) (x .tables) (bases w)
+        (x .levels) refl (x .shown) (x .extremes) (x .switches)
 
     received-halves : (w : ℕ) → halvesIn (receivedOf s w) ≡ halvesIn (oldReceived o w)
     unfolding receivedOf oldReceived rereadOf
     received-halves w = halves-tied R h (x .tables) (loop-kept k) (bases w)
 
   -- ---- a command
+
+  -- without error 3 the error bit does not report
+  bit-off : {s : State} → Kept t s → T (s .live .seen) → eqb (errorOf s) 3 ≡ false → s .live .basis .reported ≡ false
+  bit-off {s} k y e = sym (reading-bit (s .table) (s .live .basis)) ∙ ap (λ (z : Reading). eqb (errorIn z) 3) (sym (k .read y)) ∙ e
 
   -- a reset is refused by 13 in both panels or in neither, and by 12 in neither
   refusal-numbers : (seen : Bool) (error u p : ℕ) → (T seen → eqb error 3 ≡ false → u ≤ Z) → eqb (resetRefusal seen error p) 12 ≡ false →
@@ -345,7 +141,7 @@ module _ {t : List ℤ} (v : Valid t) (h : 0 < roundLoop t) (c : ℕ) (multiple 
     -- without error 3 the count is below R
     count-fits : T (s .live .seen) → eqb (errorOf s) 3 ≡ false → s .live .basis .start ≤ Z
     count-fits y e =
-        let r : s .live .basis .reported ≡ false = sym (reading-bit (s .table) (s .live .basis)) ∙ ap (λ (z : Reading). eqb (errorIn z) 3) (sym (k .read y)) ∙ e in
+        let r = bit-off k y e in
         let u : s .live .basis .start ≡ P (floorMod (pos (o .live .basis .start)) (pos R)) = ap P (x .basis .start r) in
         omega (arith, u, mod-below R h (pos (o .live .basis .start)), round-loop-range v)
 
@@ -421,7 +217,7 @@ module _ {t : List ℤ} (v : Valid t) (h : 0 < roundLoop t) (c : ℕ) (multiple 
     unfolding refusalOf
     unreported y =
         let n = allowed (s .live .seen) (errorOf s) (s .live .basis .start) y in
-        sym (reading-bit (s .table) (s .live .basis)) ∙ ap (λ (z : Reading). eqb (errorIn z) 3) (sym (k .read (n .0))) ∙ n .1
+        bit-off k (n .0) (n .1)
 
     reset-loop : roundLoop (withOffset (s .table) u) ≡ R
     reset-loop = loop-alike (alike-trans (offset-alike (s .table) u) (k .alike)) stored-scaling
@@ -439,16 +235,7 @@ module _ {t : List ℤ} (v : Valid t) (h : 0 < roundLoop t) (c : ℕ) (multiple 
     -- the same live values, and tables that are tied
     kept-live : {a b : List ℤ} → Tables R a b → Ties (withTable s a) (withTable o b)
     kept-live z =
-        record {
-          tables = z;
-          basis = x .basis;
-          levels = x .levels;
-          seen = x .seen;
-          reading = x .reading;
-          shown = x .shown;
-          extremes = x .extremes;
-          switches = x .switches;
-        }
+        tied z (x .basis) (x .levels) (x .seen) (x .reading) (x .shown) (x .extremes) (x .switches)
 
     command-tied : (a : Action) → Aimed a → eqb (refusalOf a o) 12 ≡ false → Left (commandOf a s) (commandOf a o)
     unfolding commandOf carriedOut clearLocksOf extremesAt clearExtremesOf teachOf
@@ -465,29 +252,13 @@ module _ {t : List ℤ} (v : Valid t) (h : 0 < roundLoop t) (c : ℕ) (multiple 
         done Freeze m y = x
         done Reset m y = reset-tied y
         done ClearLocks m y =
-            record {
-              tables = x .tables;
-              basis = x .basis;
-              levels = x .levels;
-              seen = x .seen;
-              reading = x .reading;
-              shown = x .shown;
-              extremes = x .extremes;
-              switches = rw (x .switches);
-            }
+            tied (x .tables) (x .basis) (x .levels) (x .seen) (x .reading) (x .shown) (x .extremes) (rw (x .switches))
         done ClearExtremes m y =
-            record {
-              tables = x .tables;
-              basis = x .basis;
-              levels = x .levels;
-              seen = x .seen;
-              reading = x .reading;
-              shown = x .shown;
-              extremes = rw (x .seen, x .reading);
-              switches = x .switches;
-            }
+            tied (x .tables) (x .basis) (x .levels) (x .seen) (x .reading) (x .shown) (rw (x .seen, x .reading)) (x .switches)
         done (Teach j) m y =
-            kept-live (subst (λ (z : ℤ). Tables R (withPreselection (s .table) j r) (withPreselection (o .table) j z)) (ap (λ (z : Reading). z .result) (x .reading)) (taught (g .table .long) (x .tables) j r m))
+            kept-live
+            (subst (λ (z : ℤ). Tables R (withPreselection (s .table) j r) (withPreselection (o .table) j z)) (ap (λ (z : Reading). z .result) (x .reading))
+            (taught (g .table .long) (x .tables) j r m))
 
     marks-tied : (a : Action) (marks : ℕ) → eqb (refusalOf a o) 12 ≡ false → marksAfter a s marks ≡ marksAfter a o marks
     unfolding marksAfter
@@ -587,29 +358,11 @@ module _ {t : List ℤ} (v : Valid t) (h : 0 < roundLoop t) (c : ℕ) (multiple 
 
   levels-set : {s o : State} → Ties s o → (l : ℕ) → Ties (withLevels s l) (withLevels o l)
   levels-set x l =
-      record {
-        tables = x .tables;
-        basis = x .basis;
-        levels = refl;
-        seen = x .seen;
-        reading = x .reading;
-        shown = x .shown;
-        extremes = x .extremes;
-        switches = x .switches;
-      }
+      tied (x .tables) (x .basis) refl (x .seen) (x .reading) (x .shown) (x .extremes) (x .switches)
 
   ticked : {s o : State} → Ties s o → (ms : ℕ) → Ties (withSwitches s (allTicked ms (s .live .switches))) (withSwitches o (allTicked ms (o .live .switches)))
   ticked x ms =
-      record {
-        tables = x .tables;
-        basis = x .basis;
-        levels = x .levels;
-        seen = x .seen;
-        reading = x .reading;
-        shown = x .shown;
-        extremes = x .extremes;
-        switches = rw (x .switches);
-      }
+      tied (x .tables) (x .basis) (x .levels) (x .seen) (x .reading) (x .shown) (x .extremes) (rw (x .switches))
 
   step-tied : (s o : State) → Good s → Kept t s → Ties s o → (e : Event) → barredBy o e ≡ false → Stepped (stepOf s e) (oldStep o e)
   unfolding stepOf onTelegram oldStep oldTelegram onLevels onTick barredBy

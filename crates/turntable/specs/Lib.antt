@@ -3,5 +3,6 @@ pub mod OldRule
 pub mod Turntable
 pub mod LoopLaws
 pub mod TravelledLaws
+pub mod TiedLaws
 pub mod AgreeLaws
 pub mod Cases
