@@ -14,21 +14,21 @@ use Rattle.reading.specs.Reading.{directedAt, basisOf}
 
 -- before the first telegram: nothing to start from, and no count
 abbrev pub noBasis : Basis
-noBasis = record { start = 0; place = 0; reported = false; counted = false }
+noBasis = record { start = 0; last = 0; reported = false; counted = false }
 
 -- ---- of a round loop R and an encoder of M positions
 
 -- "The count U starts as p modulo R at the first telegram without error 3. Each further telegram without error 3 adds the step"
 unfoldable pub countAfter : ℕ → ℕ → Basis → ℕ → ℕ
-countAfter R M b p = cond (b .counted) (countedOf R (b .start) (stepFrom M (b .place) p)) (firstCount R p)
+countAfter R M b p = cond (b .counted) (countedOf R (b .start) (stepFrom M (b .last) p)) (firstCount R p)
 
 -- a telegram without error 3: U after it, and the p that the next step is counted from
 unfoldable pub followedOf : ℕ → ℕ → Basis → ℕ → Basis
-followedOf R M b p = record { start = countAfter R M b p; place = p; reported = false; counted = true }
+followedOf R M b p = record { start = countAfter R M b p; last = p; reported = false; counted = true }
 
 -- a telegram with error 3 moves neither
 unfoldable pub heldOf : Basis → Basis
-heldOf b = record { start = b .start; place = b .place; reported = true; counted = b .counted }
+heldOf b = record { start = b .start; last = b .last; reported = true; counted = b .counted }
 
 -- ---- of a table
 

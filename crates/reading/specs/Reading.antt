@@ -34,7 +34,7 @@ directedAt t w = directedOf (direction t) (widthOf (layoutOf t)) (positionOf (la
 
 -- what a telegram's result starts from without a round loop: p after direction, and nothing is counted
 unfoldable pub basisOf : List ℤ → ℕ → Basis
-basisOf t w = record { start = directedAt t w; place = 0; reported = errorReported (layoutOf t) w; counted = false }
+basisOf t w = record { start = directedAt t w; last = 0; reported = errorReported (layoutOf t) w; counted = false }
 
 -- steps 2 to 5: the result and the error
 unfoldable pub measuredAt : List ℤ → Basis → Measured

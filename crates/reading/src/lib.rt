@@ -19,7 +19,7 @@ pub struct Basis {
     // What the offset is subtracted from: the position after direction, with a round loop the count.
     pub start: u32,
     // The position after direction that the count was last counted from.
-    pub place: u32,
+    pub last: u32,
     // Whether the telegram's error bit stands at its error level.
     pub reported: bool,
     // Whether there is a count.
@@ -68,7 +68,7 @@ fn basis_of(t: &[i32; 104], l: Layout, telegram: u32) -> Basis
 {
     Basis {
         start: directed(t, l, telegram),
-        place: 0,
+        last: 0,
         reported: ssi::error_reported(l, telegram),
         counted: false,
     }
@@ -89,7 +89,7 @@ fn count_after(r: u32, width: u32, b: Basis, p: u32) -> u32
     ensures { λ n. ⌜ n ≡ countAfter r (2 ^ width) b p ⌝ }
 {
     if b.counted {
-        return roundloop::counted(width, r, b.start, b.place, p);
+        return roundloop::counted(width, r, b.start, b.last, p);
     }
     roundloop::first(r, p)
 }
@@ -110,7 +110,7 @@ pub fn basis_after(t: &[i32; 104], b: Basis, telegram: u32) -> Basis
     }
     Basis {
         start: count_after(r, ssi::width(l), b, n.start),
-        place: n.start,
+        last: n.start,
         reported: false,
         counted: true,
     }

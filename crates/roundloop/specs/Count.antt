@@ -15,9 +15,9 @@ pub record Short (M : ℕ) (s : ℤ) : Type 0 where
   pub low : negℤ (pos M) ≤ℤ (pos 2 *ℤ s)
   pub high : (pos 2 *ℤ s) <ℤ pos M
 
--- "the step s that equals, modulo M, the change of p", and is short (`step-is`), from place to p
+-- "the step s that equals, modulo M, the change of p", and is short (`step-is`), from the last p to this one
 unfoldable pub stepFrom : ℕ → ℕ → ℕ → ℤ
-stepFrom M place p = floorMod (pos p -ℤ pos place +ℤ pos (half M)) (pos M) -ℤ pos (half M)
+stepFrom M last p = floorMod (pos p -ℤ pos last +ℤ pos (half M)) (pos M) -ℤ pos (half M)
 
 -- "The count U starts as p modulo R"
 unfoldable pub firstCount : ℕ → ℕ → ℕ

@@ -22,34 +22,34 @@ pub record Even (M : ℕ) : Type 0 where
 -- ---- the step
 
 -- s is short, and equals the change of p modulo M
-pub record Step (M place p : ℕ) (s : ℤ) : Type 0 where
+pub record Step (M last p : ℕ) (s : ℤ) : Type 0 where
   pub short : Short M s
   pub turns : ℤ
-  pub same : pos p ≡ pos place +ℤ s +ℤ turns *ℤ pos M
+  pub same : pos p ≡ pos last +ℤ s +ℤ turns *ℤ pos M
 
 module _ {M : ℕ} (m : Even M) where
   above : pos 0 <ℤ pos M
   above = omega (arith, ints, m .some)
 
   -- the step taken is one
-  pub step-is : (place p : ℕ) → Step M place p (stepFrom M place p)
+  pub step-is : (last p : ℕ) → Step M last p (stepFrom M last p)
   unfolding stepFrom
-  step-is place p =
+  step-is last p =
       record {
         short = record {
           low = le (neg (lit M)) (lit 2 ⊗ (var f ⊖ lit H)) (omega (arith, m .halves, le-in (lit 0) (var f) (r .0)));
           high = lt (lit 2 ⊗ (var f ⊖ lit H)) (lit M) (omega (arith, m .halves, lt-in (var f) (lit M) (r .1)));
         };
         turns = k;
-        same = ring (lit p) (lit place ⊕ (var f ⊖ lit H) ⊕ var k ⊗ lit M)
-            (omega (arith, ring-to (lit p ⊖ lit place ⊕ lit H) (var k ⊗ lit M ⊕ var f) (floor-split z (pos M) above)));
+        same = ring (lit p) (lit last ⊕ (var f ⊖ lit H) ⊕ var k ⊗ lit M)
+            (omega (arith, ring-to (lit p ⊖ lit last ⊕ lit H) (var k ⊗ lit M ⊕ var f) (floor-split z (pos M) above)));
       }
     where
       H : ℕ
       H = half M
 
       z : ℤ
-      z = pos p -ℤ pos place +ℤ pos H
+      z = pos p -ℤ pos last +ℤ pos H
 
       f : ℤ
       f = floorMod z (pos M)
@@ -61,34 +61,34 @@ module _ {M : ℕ} (m : Even M) where
       r = floor-range z (pos M) above
 
   -- and the only one: 2 s + M is the remainder of one number by 2 M
-  pub step-only : {place p : ℕ} (s x : ℤ) → Step M place p s → Step M place p x → s ≡ x
-  step-only {place} {p} s x f g =
+  pub step-only : {last p : ℕ} (s x : ℤ) → Step M last p s → Step M last p x → s ≡ x
+  step-only {last} {p} s x f g =
       let e = same-rest (f .turns) (g .turns) (pos 2 *ℤ s +ℤ pos M) (pos 2 *ℤ x +ℤ pos M) (pos (2 * M))
       (le (lit 0) (lit 2 ⊗ var s ⊕ lit M) (omega (arith, le-in (neg (lit M)) (lit 2 ⊗ var s) (f .short .low))))
       (lt (lit 2 ⊗ var s ⊕ lit M) (lit (2 * M)) (omega (arith, lt-in (lit 2 ⊗ var s) (lit M) (f .short .high))))
       (le (lit 0) (lit 2 ⊗ var x ⊕ lit M) (omega (arith, le-in (neg (lit M)) (lit 2 ⊗ var x) (g .short .low))))
       (lt (lit 2 ⊗ var x ⊕ lit M) (lit (2 * M)) (omega (arith, lt-in (lit 2 ⊗ var x) (lit M) (g .short .high))))
       (ring (var (f .turns) ⊗ lit (2 * M) ⊕ (lit 2 ⊗ var s ⊕ lit M)) (var (g .turns) ⊗ lit (2 * M) ⊕ (lit 2 ⊗ var x ⊕ lit M))
-      (omega (arith, ring-to (lit p) (lit place ⊕ var s ⊕ var (f .turns) ⊗ lit M) (f .same), ring-to (lit p) (lit place ⊕ var x ⊕ var (g .turns) ⊗ lit M) (g .same)))) in
+      (omega (arith, ring-to (lit p) (lit last ⊕ var s ⊕ var (f .turns) ⊗ lit M) (f .same), ring-to (lit p) (lit last ⊕ var x ⊕ var (g .turns) ⊗ lit M) (g .same)))) in
       ring (var s) (var x) (omega (arith, ring-to (lit 2 ⊗ var s ⊕ lit M) (lit 2 ⊗ var x ⊕ lit M) e))
 
   -- so a short move is followed exactly, wherever it ends
-  pub step-moved : (place : ℕ) (x : ℤ) → Short M x → stepFrom M place (P (floorMod (pos place +ℤ x) (pos M))) ≡ x
-  step-moved place x short =
-      step-only _ x (step-is place (P q))
+  pub step-moved : (last : ℕ) (x : ℤ) → Short M x → stepFrom M last (P (floorMod (pos last +ℤ x) (pos M))) ≡ x
+  step-moved last x short =
+      step-only _ x (step-is last (P q))
       (record {
         short = short;
         turns = negℤ k;
-        same = mod-nat M (m .some) (pos place +ℤ x)
-            ∙ ring (var q) (lit place ⊕ var x ⊕ neg (var k) ⊗ lit M)
-            (omega (arith, ring-to (lit place ⊕ var x) (var k ⊗ lit M ⊕ var q) (floor-split (pos place +ℤ x) (pos M) above)));
+        same = mod-nat M (m .some) (pos last +ℤ x)
+            ∙ ring (var q) (lit last ⊕ var x ⊕ neg (var k) ⊗ lit M)
+            (omega (arith, ring-to (lit last ⊕ var x) (var k ⊗ lit M ⊕ var q) (floor-split (pos last +ℤ x) (pos M) above)));
       })
     where
       q : ℤ
-      q = floorMod (pos place +ℤ x) (pos M)
+      q = floorMod (pos last +ℤ x) (pos M)
 
       k : ℤ
-      k = shrZ (pos place +ℤ x) M
+      k = shrZ (pos last +ℤ x) M
 
 -- ---- the count
 
@@ -112,22 +112,22 @@ module _ (R : ℕ) (h : 0 < R) where
   unfolding countedOf
   counted-is U s T e = mod-nat R h (pos U +ℤ s) ∙ mod-add R h (pos U) T s (ap (λ (z : ℤ). floorMod z (pos R)) e ∙ mod-again R h T)
 
-  -- where M is a multiple of R, a count that is place modulo R becomes p modulo R
-  pub counted-place : {M : ℕ} → Even M → (c : ℕ) → M ≡ c * R → (U place p : ℕ) → pos U ≡ floorMod (pos place) (pos R) →
-      pos (countedOf R U (stepFrom M place p)) ≡ floorMod (pos p) (pos R)
-  counted-place {M} m c multiple U place p e = counted-is U (stepFrom M place p) (pos place) e ∙ back (step-is m place p)
+  -- where M is a multiple of R, a count that is the last position modulo R becomes p modulo R
+  pub counted-position : {M : ℕ} → Even M → (c : ℕ) → M ≡ c * R → (U last p : ℕ) → pos U ≡ floorMod (pos last) (pos R) →
+      pos (countedOf R U (stepFrom M last p)) ≡ floorMod (pos p) (pos R)
+  counted-position {M} m c multiple U last p e = counted-is U (stepFrom M last p) (pos last) e ∙ back (step-is m last p)
     where
-      back : Step M place p (stepFrom M place p) → floorMod (pos place +ℤ stepFrom M place p) (pos R) ≡ floorMod (pos p) (pos R)
+      back : Step M last p (stepFrom M last p) → floorMod (pos last +ℤ stepFrom M last p) (pos R) ≡ floorMod (pos p) (pos R)
       back f =
-          sym (same-mod R h (pos p) (pos place +ℤ stepFrom M place p) (f .turns *ℤ pos c)
-          (f .same ∙ ap (λ (n : ℕ). pos place +ℤ stepFrom M place p +ℤ f .turns *ℤ pos n) multiple
-          ∙ ring (lit place ⊕ var (stepFrom M place p) ⊕ var (f .turns) ⊗ lit (c * R)) (lit place ⊕ var (stepFrom M place p) ⊕ var (f .turns) ⊗ lit c ⊗ lit R) (omega arith)))
+          sym (same-mod R h (pos p) (pos last +ℤ stepFrom M last p) (f .turns *ℤ pos c)
+          (f .same ∙ ap (λ (n : ℕ). pos last +ℤ stepFrom M last p +ℤ f .turns *ℤ pos n) multiple
+          ∙ ring (lit last ⊕ var (stepFrom M last p) ⊕ var (f .turns) ⊗ lit (c * R)) (lit last ⊕ var (stepFrom M last p) ⊕ var (f .turns) ⊗ lit c ⊗ lit R) (omega arith)))
 
 -- ---- for code: with up to 2 ^ 32 positions the step is far below 2 ^ 63
 
-pub step-within : (M place p : ℕ) → M ≤ 4294967296 → Within 4294967296 (stepFrom M place p)
+pub step-within : (M last p : ℕ) → M ≤ 4294967296 → Within 4294967296 (stepFrom M last p)
 unfolding stepFrom
-step-within M place p h =
-    let r = rest-within (pos p -ℤ pos place +ℤ pos (half M)) M in
-    let f : ℤ = floorMod (pos p -ℤ pos place +ℤ pos (half M)) (pos M) in
+step-within M last p h =
+    let r = rest-within (pos p -ℤ pos last +ℤ pos (half M)) M in
+    let f : ℤ = floorMod (pos p -ℤ pos last +ℤ pos (half M)) (pos M) in
     within 4294967296 (f -ℤ pos (half M)) (omega (arith, sub-is f (pos (half M)), r .0, r .1)) (omega (arith, sub-is f (pos (half M)), r .0, r .1))

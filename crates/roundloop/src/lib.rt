@@ -4,13 +4,13 @@ ghost use mathlib.Core.Path.{_≡_};
 ghost use Prim.Native.Nat.{_≤_, _^_};
 ghost use Rattle.roundloop.specs.Count.{stepFrom, firstCount, countedOf};
 
-// The step from place to p on an encoder of m positions: the change modulo m, from -m/2 to below m/2.
-fn step(m: u64, place: u32, p: u32) -> i64
+// The step from the last position to p on an encoder of m positions: the change modulo m, from -m/2 to below m/2.
+fn step(m: u64, last: u32, p: u32) -> i64
     requires { ⌜ m ≤ 4294967296 ⌝ }
-    ensures { λ r. ⌜ r ≡ stepFrom m place p ⌝ }
+    ensures { λ r. ⌜ r ≡ stepFrom m last p ⌝ }
 {
     let half = (m / 2) as i64;
-    let change = p as i64 - place as i64;
+    let change = p as i64 - last as i64;
     integers::floor_rem(change + half, m as i64) - half
 }
 
@@ -22,13 +22,13 @@ pub fn first(r: u32, p: u32) -> u32
     p % r
 }
 
-// The count after the step from the place that it was last counted from to p, kept modulo r. The encoder has 2 ^ width positions.
-pub fn counted(width: u32, r: u32, count: u32, place: u32, p: u32) -> u32
+// The count after the step from the position that it was last counted from to p, kept modulo r. The encoder has 2 ^ width positions.
+pub fn counted(width: u32, r: u32, count: u32, last: u32, p: u32) -> u32
     requires { ⌜ width ≤ 32 ⌝ }
-    ensures { λ n. ⌜ n ≡ countedOf r count (stepFrom (2 ^ width) place p) ⌝ }
+    ensures { λ n. ⌜ n ≡ countedOf r count (stepFrom (2 ^ width) last p) ⌝ }
 {
     let m: u64 = 1 << width;
-    let s = step(m, place, p);
+    let s = step(m, last, p);
     let n = integers::floor_rem(count as i64 + s, r as i64);
     n as u32
 }

@@ -61,7 +61,7 @@ pub fn fresh(table: [i32; 104]) -> State
             seen: false,
             basis: Basis {
                 start: 0,
-                place: 0,
+                last: 0,
                 reported: false,
                 counted: false,
             },

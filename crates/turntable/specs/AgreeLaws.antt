@@ -36,7 +36,7 @@ use Rattle.reading.specs.Follow.{countAfter, followedOf, heldOf, basisAfter}
 use Rattle.reading.specs.FollowLaws.{by-follow}
 use Rattle.reading.specs.Reading.{acceptsOf, directedAt, basisOf, noHalves}
 use Rattle.reading.specs.ReadingLaws.{reading-bit}
-use Rattle.roundloop.specs.CountLaws.{first-is, counted-place}
+use Rattle.roundloop.specs.CountLaws.{first-is, counted-position}
 use Rattle.runs.specs.KeptLaws.{Kept, kept-fresh, kept-input, kept-step}
 use Rattle.runs.specs.Run.{answersOf}
 use Rattle.settings.specs.declared.Action.{Action}
@@ -51,14 +51,14 @@ use Rattle.state.specs.Extremes.{errorIn}
 use Rattle.state.specs.Valid.{Good}
 use Rattle.state.specs.ValidLaws.{good-fresh}
 use Rattle.switching.specs.Switching.{allTicked}
-use Rattle.turntable.specs.OldRule.{oldReceived, oldTelegram, oldStep, oldAnswers, barredAt, barredBy, barredIn}
-use Rattle.turntable.specs.Turntable.{positions, Same, AllSame, RulesAgree}
+use Rattle.turntable.specs.OldRule.{oldReceived, oldTelegram, oldStep, oldAnswers}
+use Rattle.turntable.specs.Turntable.{range, Same, AllSame, RulesAgree, barredAt, barredBy, barredIn}
 use Rattle.turntable.specs.TravelledLaws.{modulus-even}
 use Rattle.turntable.specs.TiedLaws.{both, Tables, Bases, Tied, tied, halves-tied, inputs-tied, settled-tied, answer-tied, reread-tied}
 
 -- ---- a table that loads, with M a multiple of its R
 
-module _ {t : List ℤ} (v : Valid t) (h : 0 < roundLoop t) (c : ℕ) (multiple : positions t ≡ c * roundLoop t) where
+module _ {t : List ℤ} (v : Valid t) (h : 0 < roundLoop t) (c : ℕ) (multiple : range t ≡ c * roundLoop t) where
   abbrev R : ℕ
   R = roundLoop t
 
@@ -81,11 +81,11 @@ module _ {t : List ℤ} (v : Valid t) (h : 0 < roundLoop t) (c : ℕ) (multiple 
     abbrev here : ℕ → ℕ
     here w = directedAt (s .table) w
 
-    count-is : (w : ℕ) → pos (countAfter R (positions t) (s .live .basis) (here w)) ≡ floorMod (pos (here w)) (pos R)
+    count-is : (w : ℕ) → pos (countAfter R (range t) (s .live .basis) (here w)) ≡ floorMod (pos (here w)) (pos R)
     unfolding countAfter
     count-is w =
         by-test (s .live .basis .counted) _ _ (λ (n : ℕ). pos n ≡ floorMod (pos (here w)) (pos R))
-        (λ y. counted-place R h (modulus-even (layoutOf t)) c multiple (s .live .basis .start) (s .live .basis .place) (here w) (x .basis .count y))
+        (λ y. counted-position R h (modulus-even (layoutOf t)) c multiple (s .live .basis .start) (s .live .basis .last) (here w) (x .basis .count y))
         (λ _. first-is R h (here w))
 
     bit-same : (w : ℕ) → errorReported (layoutOf (s .table)) w ≡ errorReported (layoutOf (o .table)) w
@@ -396,6 +396,6 @@ rules-agree t e c multiple es n =
     above : 0 < roundLoop t
     above = go (roundLoop t) multiple
       where
-        go : (r : ℕ) → positions t ≡ c * r → 0 < r
+        go : (r : ℕ) → range t ≡ c * r → 0 < r
         go zero m = absurd (omega (arith, modulus-even (layoutOf t) .some))
         go (suc r) m = omega arith

@@ -32,8 +32,7 @@ use Rattle.settings.specs.declared.Action.the-variants.{None, Reset, Freeze, Cl
 use Rattle.settings.specs.Settings.{inputAt}
 use Rattle.state.specs.declared.State.{State}
 use Rattle.state.specs.State.{freshOf, errorOf, rereadOf, receivedOf}
-use Rattle.turntable.specs.OldRule.{barredAt, barredBy, barredIn}
-use Rattle.turntable.specs.Turntable.{noted, NeverTwelve}
+use Rattle.turntable.specs.Turntable.{noted, NeverTwelve, barredAt, barredBy, barredIn}
 
 -- ---- the count stays below R
 

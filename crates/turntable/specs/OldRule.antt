@@ -1,21 +1,15 @@
 -- THE RULE BEFORE K4: with a round loop too, a result starts from p of its own telegram, whatever came before; a reset stores p, and 12 refuses one above Z.
 -- It stands here for the theorem that compares it with the count (`RulesAgree`), and for nothing else. Paper 01, "From telegram to result", step 2. Assumes nothing.
-use mathlib.Core.Bool.{Bool, false, cond, _&&_, _||_}
+use mathlib.Core.Bool.{cond}
 use mathlib.Core.List.{List, [], _∷_}
 use Prim.Native.Nat.{ℕ}
-use lib.Dec.{eqb, leb}
 use Rattle.events.specs.declared.Event.{Event}
 use Rattle.events.specs.declared.Event.the-variants.{Telegram, Levels, Tick}
-use Rattle.inputs.specs.Commands.{Acted, acted, refusalOf}
-use Rattle.inputs.specs.Levels.{edgeAt, inputOf}
 use Rattle.panel.specs.declared.Answer.{Answer}
 use Rattle.panel.specs.Step.{answerOf, settledOf, onLevels, onTick}
 use Rattle.reading.specs.Reading.{acceptsOf, basisOf, noHalves}
-use Rattle.settings.specs.Settings.{inputAt}
 use Rattle.state.specs.declared.State.{State}
 use Rattle.state.specs.State.{withBasis, halvesIn, rereadOf}
-
--- ---- the old engine
 
 -- step 2: "d = p − O, and with R above 0 that modulo R"
 unfoldable pub oldReceived : State → ℕ → State
@@ -33,20 +27,3 @@ oldStep s (Tick ms) = onTick s ms
 unfoldable pub oldAnswers : State → List Event → List Answer
 oldAnswers s [] = []
 oldAnswers s (e ∷ es) = oldStep s e ∷ oldAnswers (oldStep s e .state) es
-
--- ---- "a reset that the old refuses by 12", told of either engine by its step
-
--- input i + 1 is refused by 12, on what the earlier ones left; nothing but a reset is
-unfoldable pub barredAt : ℕ → ℕ → Acted → Bool
-barredAt l i x = edgeAt (x .state) l i && eqb (refusalOf (inputAt (x .state .table) i .action) (x .state)) 12
-
-unfoldable pub barredBy : State → Event → Bool
-barredBy s (Telegram w) = false
-barredBy s (Levels l) =
-    leb l 7 && (barredAt l 0 (acted s 0) || (barredAt l 1 (inputOf l 0 (acted s 0)) || barredAt l 2 (inputOf l 1 (inputOf l 0 (acted s 0)))))
-barredBy s (Tick ms) = false
-
--- some reset of a list is
-unfoldable pub barredIn : (State → Event → Answer) → State → List Event → Bool
-barredIn step s [] = false
-barredIn step s (e ∷ es) = barredBy s e || barredIn step (step s e .state) es

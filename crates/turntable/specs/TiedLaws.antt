@@ -81,7 +81,7 @@ pub record Tables (R : ℕ) (s o : List ℤ) : Type 0 where
 -- the count is what it was last counted from modulo R, and without error 3 the old position modulo R
 pub record Bases (R : ℕ) (b o : Basis) : Type 0 where
   pub reported : b .reported ≡ o .reported
-  pub count : T (b .counted) → pos (b .start) ≡ floorMod (pos (b .place)) (pos R)
+  pub count : T (b .counted) → pos (b .start) ≡ floorMod (pos (b .last)) (pos R)
   pub start : b .reported ≡ false → pos (b .start) ≡ floorMod (pos (o .start)) (pos R)
 
 -- under error 3 nothing of the basis matters

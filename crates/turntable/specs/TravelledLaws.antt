@@ -32,7 +32,7 @@ use Rattle.ssi.specs.declared.Layout.{Layout}
 use Rattle.ssi.specs.Telegram.{errorReported, modulus}
 use Rattle.state.specs.State.{freshOf}
 use Rattle.state.specs.ValidLaws.{good-fresh}
-use Rattle.turntable.specs.Turntable.{positions, counts, placesIn, placesAfter, AllShort, together, AllTravelled}
+use Rattle.turntable.specs.Turntable.{range, counts, countedIn, wayFrom, AllShort, together, AllTravelled}
 
 -- ---- M is even
 
@@ -58,18 +58,18 @@ held-out R M b (p ∷ ps) = refl
 module _ (M R : ℕ) (m : Even M) (h : 0 < R) where
   -- from a count that is T modulo R, all moves together
   moves-from : (b : Basis) (T : ℤ) (xs : List ℤ) → b .counted ≡ true → pos (b .start) ≡ floorMod T (pos R) → AllShort M xs →
-      pos (followAll R M b (placesAfter M (b .place) xs) .start) ≡ floorMod (T +ℤ together xs) (pos R)
-  unfolding followAll placesAfter AllShort together followedOf countAfter
+      pos (followAll R M b (wayFrom M (b .last) xs) .start) ≡ floorMod (T +ℤ together xs) (pos R)
+  unfolding followAll wayFrom AllShort together followedOf countAfter
   moves-from b T [] c e s = e ∙ ap (λ (z : ℤ). floorMod z (pos R)) (ring (var T) (var T ⊕ lit 0) (omega arith))
   moves-from b T (x ∷ xs) c e s =
-      moves-from (followedOf R M b p) (T +ℤ x) xs refl (rw c (ap (λ (z : ℤ). pos (countedOf R (b .start) z)) (step-moved m (b .place) x (s .0)) ∙ counted-is R h (b .start) x T e)) (s .1)
+      moves-from (followedOf R M b p) (T +ℤ x) xs refl (rw c (ap (λ (z : ℤ). pos (countedOf R (b .start) z)) (step-moved m (b .last) x (s .0)) ∙ counted-is R h (b .start) x T e)) (s .1)
       ∙ ap (λ (z : ℤ). floorMod z (pos R)) (ring (var T ⊕ var x ⊕ var (together xs)) (var T ⊕ (var x ⊕ var (together xs))) (omega arith))
     where
       p : ℕ
-      p = P (floorMod (pos (b .place) +ℤ x) (pos M))
+      p = P (floorMod (pos (b .last) +ℤ x) (pos M))
 
   -- from the first position on
-  moves-first : (p : ℕ) (xs : List ℤ) → AllShort M xs → pos (followAll R M noBasis (p ∷ placesAfter M p xs) .start) ≡ floorMod (pos p +ℤ together xs) (pos R)
+  moves-first : (p : ℕ) (xs : List ℤ) → AllShort M xs → pos (followAll R M noBasis (p ∷ wayFrom M p xs) .start) ≡ floorMod (pos p +ℤ together xs) (pos R)
   unfolding followAll followedOf countAfter
   moves-first p xs s = moves-from (followedOf R M noBasis p) (pos p) xs refl (first-is R h p) s
 
@@ -77,7 +77,7 @@ module _ (M R : ℕ) (m : Even M) (h : 0 < R) where
 
 module _ (t : List ℤ) (h : 0 < roundLoop t) where
   abbrev U : Book → List ℕ → ℕ
-  U b ps = followAll (roundLoop t) (positions t) (b .basis) ps .start
+  U b ps = followAll (roundLoop t) (range t) (b .basis) ps .start
 
   input-leaves : (l i : ℕ) (b : Book) → bookInput t l i b .basis ≡ b .basis
   unfolding bookInput
@@ -98,25 +98,25 @@ module _ (t : List ℤ) (h : 0 < roundLoop t) where
       go : (a : Bool) → U (cond a (takes t b w) b) ps ≡ U b (cond (a && not (errorReported (layoutOf t) w)) (directedAt t w ∷ ps) ps)
       go false = refl
       go true =
-          by-follow t h (b .basis) w (λ (x : Basis). followAll (roundLoop t) (positions t) x ps .start ≡ U b (cond (not (errorReported (layoutOf t) w)) (directedAt t w ∷ ps) ps))
-          (λ y. rw y (held-out (roundLoop t) (positions t) (b .basis) ps)) (λ n. rw n)
+          by-follow t h (b .basis) w (λ (x : Basis). followAll (roundLoop t) (range t) x ps .start ≡ U b (cond (not (errorReported (layoutOf t) w)) (directedAt t w ∷ ps) ps))
+          (λ y. rw y (held-out (roundLoop t) (range t) (b .basis) ps)) (λ n. rw n)
 
-  book-follows : (b : Book) (es : List Event) → bookFrom t b es .basis .start ≡ U b (placesIn t es)
-  unfolding bookFrom bookStep placesIn followAll
+  book-follows : (b : Book) (es : List Event) → bookFrom t b es .basis .start ≡ U b (countedIn t es)
+  unfolding bookFrom bookStep countedIn followAll
   book-follows b [] = refl
-  book-follows b (Telegram w ∷ es) = book-follows (bookStep t b (Telegram w)) es ∙ telegram-counts b w (placesIn t es)
+  book-follows b (Telegram w ∷ es) = book-follows (bookStep t b (Telegram w)) es ∙ telegram-counts b w (countedIn t es)
   book-follows b (Levels l ∷ es) =
-      book-follows (bookStep t b (Levels l)) es ∙ ap (λ (x : Basis). followAll (roundLoop t) (positions t) x (placesIn t es) .start) (levels-leave b l)
+      book-follows (bookStep t b (Levels l)) es ∙ ap (λ (x : Basis). followAll (roundLoop t) (range t) x (countedIn t es) .start) (levels-leave b l)
   book-follows b (Tick ms ∷ es) = book-follows b es
 
 -- U IS HOW FAR THE TABLE HAS TURNED
 pub travelled : AllTravelled
 travelled t e h es =
     record {
-      count = λ p xs s places.
+      count = λ p xs s way.
           ap (λ (x : Basis). pos (x .start)) matched ∙ ap pos (book-follows t h (freshBook t) es)
-          ∙ ap (λ (ps : List ℕ). pos (followAll (roundLoop t) (positions t) noBasis ps .start)) places
-          ∙ moves-first (positions t) (roundLoop t) (modulus-even (layoutOf t)) h p xs s;
+          ∙ ap (λ (ps : List ℕ). pos (followAll (roundLoop t) (range t) noBasis ps .start)) way
+          ∙ moves-first (range t) (roundLoop t) (modulus-even (layoutOf t)) h p xs s;
       book = sym matched;
     }
   where

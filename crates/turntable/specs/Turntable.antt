@@ -7,10 +7,12 @@ use mathlib.Core.Path.{_≡_}
 use mathlib.Core.Bool.{Bool, false, cond, not, _&&_, _||_}
 use mathlib.Core.List.{List, [], _∷_}
 use Prim.Native.Nat.{ℕ, _*_, _<_}
-use lib.Dec.{eqb}
+use lib.Dec.{eqb, leb}
 use lib.IntN.{ℤ, pos, _+ℤ_}
 use Rattle.events.specs.declared.Event.{Event}
 use Rattle.events.specs.declared.Event.the-variants.{Telegram, Levels, Tick}
+use Rattle.inputs.specs.Commands.{Acted, acted, refusalOf}
+use Rattle.inputs.specs.Levels.{edgeAt, inputOf}
 use Rattle.integers.specs.Int.{P}
 use Rattle.integers.specs.Round.{floorMod}
 use Rattle.panel.specs.declared.Answer.{Answer}
@@ -21,32 +23,33 @@ use Rattle.reading.specs.Reading.{acceptsOf, directedAt}
 use Rattle.roundloop.specs.Count.{Short}
 use Rattle.runs.specs.Book.{bookOf}
 use Rattle.runs.specs.Run.{runOf, answersOf}
-use Rattle.settings.specs.Settings.{layoutOf}
+use Rattle.settings.specs.Settings.{layoutOf, inputAt}
 use Rattle.ssi.specs.Telegram.{errorReported, modulus}
+use Rattle.state.specs.declared.State.{State}
 use Rattle.state.specs.State.{freshOf}
-use Rattle.turntable.specs.OldRule.{oldStep, oldAnswers, barredIn}
+use Rattle.turntable.specs.OldRule.{oldStep, oldAnswers}
 
 -- ---- how far it has turned
 
 -- M of a table's encoder
-abbrev pub positions : List ℤ → ℕ
-positions t = modulus (layoutOf t)
+abbrev pub range : List ℤ → ℕ
+range t = modulus (layoutOf t)
 
 -- a telegram that is counted: accepted, and without error 3
 abbrev pub counts : List ℤ → ℕ → Bool
 counts t w = acceptsOf t w && not (errorReported (layoutOf t) w)
 
 -- p after direction of each of them in a list of events
-unfoldable pub placesIn : List ℤ → List Event → List ℕ
-placesIn t [] = []
-placesIn t (Telegram w ∷ es) = cond (counts t w) (directedAt t w ∷ placesIn t es) (placesIn t es)
-placesIn t (Levels l ∷ es) = placesIn t es
-placesIn t (Tick ms ∷ es) = placesIn t es
+unfoldable pub countedIn : List ℤ → List Event → List ℕ
+countedIn t [] = []
+countedIn t (Telegram w ∷ es) = cond (counts t w) (directedAt t w ∷ countedIn t es) (countedIn t es)
+countedIn t (Levels l ∷ es) = countedIn t es
+countedIn t (Tick ms ∷ es) = countedIn t es
 
 -- where the encoder stands after the moves x, one after the other, from p on: (p + x) modulo M
-unfoldable pub placesAfter : ℕ → ℕ → List ℤ → List ℕ
-placesAfter M p [] = []
-placesAfter M p (x ∷ xs) = P (floorMod (pos p +ℤ x) (pos M)) ∷ placesAfter M (P (floorMod (pos p +ℤ x) (pos M))) xs
+unfoldable pub wayFrom : ℕ → ℕ → List ℤ → List ℕ
+wayFrom M p [] = []
+wayFrom M p (x ∷ xs) = P (floorMod (pos p +ℤ x) (pos M)) ∷ wayFrom M (P (floorMod (pos p +ℤ x) (pos M))) xs
 
 -- no move is longer than half the range: −M/2 ≤ x < M/2
 unfoldable pub AllShort : ℕ → List ℤ → Type 0
@@ -59,7 +62,7 @@ together (x ∷ xs) = x +ℤ together xs
 
 -- U of a run, in the state and in the book: the first position and all moves together, modulo R, whatever else happens between the telegrams
 pub record Travelled (t : List ℤ) (es : List Event) : Type 0 where
-  pub count : (p : ℕ) (xs : List ℤ) → AllShort (positions t) xs → placesIn t es ≡ p ∷ placesAfter (positions t) p xs →
+  pub count : (p : ℕ) (xs : List ℤ) → AllShort (range t) xs → countedIn t es ≡ p ∷ wayFrom (range t) p xs →
       pos (runOf (freshOf t) es .live .basis .start) ≡ floorMod (pos p +ℤ together xs) (pos (roundLoop t))
   pub book : bookOf t es .basis ≡ runOf (freshOf t) es .live .basis
 
@@ -67,6 +70,21 @@ abbrev pub AllTravelled : Type 0
 AllTravelled = (t : List ℤ) → loadRefusal t ≡ 0 → 0 < roundLoop t → (es : List Event) → Travelled t es
 
 -- ---- "12 cannot occur while a round loop is set"
+
+-- input i + 1 is refused by 12, on what the earlier ones left; nothing but a reset ever is
+unfoldable pub barredAt : ℕ → ℕ → Acted → Bool
+barredAt l i x = edgeAt (x .state) l i && eqb (refusalOf (inputAt (x .state .table) i .action) (x .state)) 12
+
+unfoldable pub barredBy : State → Event → Bool
+barredBy s (Telegram w) = false
+barredBy s (Levels l) =
+    leb l 7 && (barredAt l 0 (acted s 0) || (barredAt l 1 (inputOf l 0 (acted s 0)) || barredAt l 2 (inputOf l 1 (inputOf l 0 (acted s 0)))))
+barredBy s (Tick ms) = false
+
+-- some reset of a list is, in the engine with this step
+unfoldable pub barredIn : (State → Event → Answer) → State → List Event → Bool
+barredIn step s [] = false
+barredIn step s (e ∷ es) = barredBy s e || barredIn step (step s e .state) es
 
 -- some answer has a note
 unfoldable pub noted : ℕ → List Answer → Bool
@@ -106,5 +124,5 @@ AllSame (a ∷ rest) (b ∷ bs) = Same a b × AllSame rest bs
 
 -- "where M is a multiple of R, old and new rule give equal results in every run without a reset that the old refuses by 12"
 abbrev pub RulesAgree : Type 0
-RulesAgree = (t : List ℤ) → loadRefusal t ≡ 0 → (c : ℕ) → positions t ≡ c * roundLoop t → (es : List Event) → barredIn oldStep (freshOf t) es ≡ false →
+RulesAgree = (t : List ℤ) → loadRefusal t ≡ 0 → (c : ℕ) → range t ≡ c * roundLoop t → (es : List Event) → barredIn oldStep (freshOf t) es ≡ false →
     AllSame (answersOf (freshOf t) es) (oldAnswers (freshOf t) es)

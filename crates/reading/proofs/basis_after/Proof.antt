@@ -33,9 +33,9 @@ error-is : (c : tie.After-basis-of) → let a = c .before .before .args in error
 unfolding basisOf
 error-is c = ap (λ (b : Basis). b .reported) (sym (c .basis-of .ensures))
 
-place-is : (c : tie.After-basis-of) → let a = c .before .before .args in directedAt (a .t .now) (a .telegram) ≡ c .basis-of .result .start
+last-is : (c : tie.After-basis-of) → let a = c .before .before .args in directedAt (a .t .now) (a .telegram) ≡ c .basis-of .result .start
 unfolding basisOf
-place-is c = ap (λ (b : Basis). b .start) (sym (c .basis-of .ensures))
+last-is c = ap (λ (b : Basis). b .start) (sym (c .basis-of .ensures))
 
 returns : tie.Need-returns
 unfolding basisAfter
@@ -79,7 +79,7 @@ returns-3 c =
       looped (t .before),
       error-is (l .before),
       e,
-      place-is (l .before),
+      last-is (l .before),
       loop-is l,
       c .count-after .ensures,
       w .width .ensures,

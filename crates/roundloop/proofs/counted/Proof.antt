@@ -33,10 +33,10 @@ step-requires c κs = rw (m-is c) (most c)
 
 -- the count and the step
 abbrev sum : tie.Start → ℤ
-sum s = pos (s .args .count) +ℤ stepFrom (2 ^ s .args .width) (s .args .place) (s .args .p)
+sum s = pos (s .args .count) +ℤ stepFrom (2 ^ s .args .width) (s .args .last) (s .args .p)
 
 -- the step as the definition has it
-s-is : (c : tie.After-step) → let a = c .before .args in c .step .result ≡ stepFrom (2 ^ a .width) (a .place) (a .p)
+s-is : (c : tie.After-step) → let a = c .before .args in c .step .result ≡ stepFrom (2 ^ a .width) (a .last) (a .p)
 s-is c = rw (m-is (c .before)) at (c .step .ensures)
 
 cast-floor-rem : tie.Need-cast-floor-rem
@@ -45,7 +45,7 @@ cast-floor-rem c = search needs
 add-floor-rem : tie.Need-add-floor-rem
 add-floor-rem c =
     let a = c .before .args in
-    let w = step-within (2 ^ a .width) (a .place) (a .p) (most (c .before)) in
+    let w = step-within (2 ^ a .width) (a .last) (a .p) (most (c .before)) in
     rw (back-at w64 (c .step .result) (c .step .ok), s-is c, toZ-pos w64 {n = a .count} (omega arith)) (omega (arith, ints, w .above, w .below))
 
 cast-floor-rem-2 : tie.Need-cast-floor-rem-2

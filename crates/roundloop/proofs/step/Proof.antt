@@ -23,13 +23,13 @@ cast-change-2 : tie.Need-cast-change-2
 cast-change-2 c = search needs
 
 sub-change : tie.Need-sub-change
-sub-change c = omega (arith, ints, toZ-pos w64 {n = c .args .p} (omega arith), toZ-pos w64 {n = c .args .place} (omega arith))
+sub-change c = omega (arith, ints, toZ-pos w64 {n = c .args .p} (omega arith), toZ-pos w64 {n = c .args .last} (omega arith))
 
 add-floor-rem : tie.Need-add-floor-rem
 add-floor-rem c =
     let a = c .args in
-    rw (toZ-ofZ (sub-change c), toZ-pos w64 {n = a .p} (omega arith), toZ-pos w64 {n = a .place} (omega arith), toZ-pos w64 {n = a .m / 2} (omega arith))
-    (omega (arith, ints, sub-is (pos (a .p)) (pos (a .place))))
+    rw (toZ-ofZ (sub-change c), toZ-pos w64 {n = a .p} (omega arith), toZ-pos w64 {n = a .last} (omega arith), toZ-pos w64 {n = a .m / 2} (omega arith))
+    (omega (arith, ints, sub-is (pos (a .p)) (pos (a .last))))
 
 cast-floor-rem : tie.Need-cast-floor-rem
 cast-floor-rem c = search needs
@@ -38,7 +38,7 @@ floor-rem-requires : tie.Need-floor-rem-requires
 floor-rem-requires c κs = search needs
 
 -- the change and half of m, by m
-rest-is : (c : tie.After-floor-rem) → let a = c .before .args in c .floor-rem .result ≡ floorMod (pos (a .p) -ℤ pos (a .place) +ℤ pos (a .m / 2)) (pos (a .m))
+rest-is : (c : tie.After-floor-rem) → let a = c .before .args in c .floor-rem .result ≡ floorMod (pos (a .p) -ℤ pos (a .last) +ℤ pos (a .m / 2)) (pos (a .m))
 rest-is c =
     let s = c .before in
     let a = s .args in
@@ -46,7 +46,7 @@ rest-is c =
       toZ-ofZ (add-floor-rem s),
       toZ-ofZ (sub-change s),
       toZ-pos w64 {n = a .p} (omega arith),
-      toZ-pos w64 {n = a .place} (omega arith),
+      toZ-pos w64 {n = a .last} (omega arith),
       toZ-pos w64 {n = a .m / 2} (omega arith),
       toZ-pos w64 {n = a .m} (omega arith),
     ) at (c .floor-rem .ensures)
@@ -54,7 +54,7 @@ rest-is c =
 sub-result : tie.Need-sub-result
 sub-result c =
     let a = c .before .args in
-    let r = rest-within (pos (a .p) -ℤ pos (a .place) +ℤ pos (a .m / 2)) (a .m) in
+    let r = rest-within (pos (a .p) -ℤ pos (a .last) +ℤ pos (a .m / 2)) (a .m) in
     rw (back-at w64 (c .floor-rem .result) (c .floor-rem .ok), rest-is c, toZ-pos w64 {n = a .m / 2} (omega arith)) (omega (arith, ints, r .0, r .1))
 
 returns : tie.Need-returns
