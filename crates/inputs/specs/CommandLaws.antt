@@ -8,10 +8,9 @@ use Prim.Native.Nat.{ℕ, zero, suc, _≤_, _<_}
 use native.Mathlib.Omega.{arith}
 use borrow.Author.Tests.{eqb-true, ltb-false}
 use lib.Dec.{T, eqb, ltb}
-use lib.IntN.{ℤ, pos}
+use lib.IntN.{ℤ}
 use Rattle.integers.specs.ChoiceLaws.{by-test, is-true, is-false}
 use Rattle.integers.specs.Limit.{Z}
-use Rattle.parameters.specs.Slots.{withOffset}
 use Rattle.parameters.specs.StoreLaws.{valid-offset, valid-preselection}
 use Rattle.settings.specs.declared.Action.{Action}
 use Rattle.settings.specs.declared.Action.the-variants.{None, Reset, Freeze, ClearLocks, ClearExtremes, Teach}
@@ -19,7 +18,7 @@ use Rattle.settings.specs.InputLaws.{aimed}
 use Rattle.settings.specs.Settings.{isReset, isTeach, Aimed, inputAt}
 use Rattle.reading.specs.Reading.{noHalves}
 use Rattle.state.specs.declared.State.{State}
-use Rattle.state.specs.State.{withTable, errorOf, halvesIn}
+use Rattle.state.specs.State.{errorOf, halvesIn}
 use Rattle.state.specs.Valid.{Good}
 use Rattle.state.specs.ValidLaws.{good-reread}
 use Rattle.inputs.specs.Commands.{Acted, acted, resetRefusal, resetOf, clearLocksOf, clearExtremesOf, teachOf, refusalOf, carriedOut, marksAfter, commandOf}
@@ -90,7 +89,7 @@ pub good-command : (a : Action) (s : State) → Aimed a → Good s → Good (com
 unfolding resetOf clearLocksOf clearExtremesOf teachOf
 good-command a s m g =
     by-command a s m Good g
-    (λ _ h. good-reread (withTable s (withOffset (s .table) (pos (s .live .basis .start)))) (valid-offset (g .table) (record { above = h; below = omega arith })))
+    (λ _ h. good-reread _ (valid-offset (g .table) (record { above = h; below = omega arith })))
     (record { table = g .table; result = g .result })
     (record { table = g .table; result = g .result })
     (λ k h _ _. record { table = valid-preselection (g .table) (g .result) k h; result = g .result })

@@ -8,6 +8,11 @@ pub by-test {ℓ} : {A : Type ℓ} (c : Bool) (x y : A) (Q : A → Type 0) → (
 by-test true x y Q f g = f tt
 by-test false x y Q f g = g tt
 
+-- a goal about two values chosen by one test
+pub both : {A B : Type 0} (c : Bool) (x y : A) (u v : B) (Q : A → B → Type 0) → (T c → Q x u) → (T (not c) → Q y v) → Q (cond c x y) (cond c u v)
+both true x y u v Q f g = f tt
+both false x y u v Q f g = g tt
+
 -- a goal that does not name the value
 pub either : {X : Type 0} (c : Bool) → (T c → X) → (T (not c) → X) → X
 either true f g = f tt

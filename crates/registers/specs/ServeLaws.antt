@@ -63,7 +63,10 @@ by-served node s f Q same carried = by-request node s (askedOf node f .reply) (a
 
 -- a valid state stays valid
 pub good-served : (node : ℕ) {s : State} → Good s → (f : List ℕ) → Good (servedOf node s f .state)
-good-served node {s} g f = by-served node s f (λ (x : Served). Good (x .state)) (λ reply n. g) (λ register z e. good-fresh (loads (writtenTable s register z) e))
+unfolding freshOf
+good-served node {s} g f =
+    by-served node s f (λ (x : Served). Good (x .state)) (λ reply n. g)
+    (λ register z e. let g = good-fresh (loads (writtenTable s register z) e) in record { table = g .table; result = g .result })
 
 -- every reply fits
 sent-fits : (due : Bool) (reply : Reply) → reply .length ≤ longestReply → sent due reply .length ≤ longestReply

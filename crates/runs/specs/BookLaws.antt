@@ -1,7 +1,7 @@
 -- The book of table and events is what the state of a run says of levels, telegram and offset. At each event both move alike, since the table in force has
 -- the loaded one's layout and inputs, and since error 3 is in force exactly where the telegram's error bit reports it.
 use mathlib.Core.Path.{_≡_, refl, sym, ap, _∙_, subst}
-use mathlib.Core.Bool.{Bool, true, false, not, cond, _&&_}
+use mathlib.Core.Bool.{Bool, true, false, cond, _&&_}
 use mathlib.Core.List.{List, [], _∷_}
 use Prim.Native.Nat.{ℕ, _<_}
 use native.Mathlib.Omega.{arith}
@@ -9,14 +9,13 @@ use lib.Dec.{T, eqb, leb}
 use lib.IntN.{ℤ, pos}
 use Rattle.events.specs.declared.Event.{Event}
 use Rattle.events.specs.declared.Event.the-variants.{Telegram, Levels, Tick}
-use Rattle.integers.specs.ChoiceLaws.{by-test, is-true, is-false}
+use Rattle.integers.specs.ChoiceLaws.{by-test, both, is-true, is-false}
 use Rattle.parameters.specs.Slots.{offsetSlot, preselectionSlot, offset, roundLoop}
 use Rattle.parameters.specs.StoreLaws.{word-kept, offset-stored, stored-layout, stored-scaling, stored-input}
 use Rattle.reading.specs.declared.Basis.{Basis}
 use Rattle.reading.specs.Follow.{basisAfter}
 use Rattle.reading.specs.FollowLaws.{unfollowed, after-reported}
 use Rattle.reading.specs.Reading.{acceptsOf, basisOf}
-use Rattle.reading.specs.ReadingLaws.{reading-bit}
 use Rattle.reading.specs.AlikeLaws.{accepts-alike, basis-alike}
 use Rattle.settings.specs.declared.Action.{Action}
 use Rattle.settings.specs.declared.Action.the-variants.{None, Reset, Freeze, ClearLocks, ClearExtremes, Teach}
@@ -33,8 +32,8 @@ use Rattle.panel.specs.declared.Answer.{Answer}
 use Rattle.panel.specs.Step.{answerOf, switchedOf, displayedOf, onTelegram, onLevels, onTick, stepOf}
 use Rattle.panel.specs.ValidLaws.{good-step}
 use Rattle.runs.specs.Run.{runOf}
-use Rattle.runs.specs.Book.{Book, freshBook, takes, turnsTo, movesTo, resets, asksReset, bookRefusal, bookInput, bookStep, bookFrom}
-use Rattle.runs.specs.KeptLaws.{Kept, kept-input, kept-step}
+use Rattle.runs.specs.Book.{Book, freshBook, takes, turnsTo, resets, asksReset, resetBook, bookRefusal, bookInput, bookStep, bookFrom}
+use Rattle.runs.specs.KeptLaws.{Kept, kept-bit, kept-input, kept-step}
 
 -- the state says what the book says; its result starts from what the book has, and error 3 is the book's telegram's, once there is one
 pub record Matches (t : List ℤ) (s : State) (b : Book) : Type 0 where
@@ -43,12 +42,6 @@ pub record Matches (t : List ℤ) (s : State) (b : Book) : Type 0 where
   pub basis : s .live .basis ≡ b .basis
   pub reported : T (b .seen) → b .basis .reported ≡ errorReported (layoutOf t) (b .telegram)
   pub offset : offset (s .table) ≡ b .offset
-
--- two choices by one test
-both : {A : Type 0} (t : List ℤ) (f : A → State) (c : Bool) (x y : A) (u v : Book) → (T c → Matches t (f x) u) → (T (not c) → Matches t (f y) v) →
-    Matches t (f (cond c x y)) (cond c u v)
-both t f true x y u v p q = p tt
-both t f false x y u v p q = q tt
 
 -- ---- a reset is refused in the state exactly where it is in the book
 
@@ -65,16 +58,16 @@ module _ {t : List ℤ} {s : State} {b : Book} (k : Kept t s) (m : Matches t s b
   refusal-same =
       rw (m .seen, ← m .basis)
       (refusal-by (b .seen) (errorReported (layoutOf t) (b .telegram)) (errorOf s) (s .live .basis .start)
-      (λ y. rw (k .read (subst T (sym (m .seen)) y)) (reading-bit (s .table) (s .live .basis)) ∙ ap (λ (z : Basis). z .reported) (m .basis) ∙ m .reported y))
+      (λ y. kept-bit k (subst T (sym (m .seen)) y) ∙ ap (λ (z : Basis). z .reported) (m .basis) ∙ m .reported y))
 
 -- ---- a command
 
 module _ {t : List ℤ} {s : State} {b : Book} (g : Good s) (k : Kept t s) (m : Matches t s b) where
   -- O after a command
   abbrev Moved : Bool → Book
-  Moved resets = cond (resets && eqb (bookRefusal t b) 0) (movesTo b (pos (b .basis .start))) b
+  Moved resets = cond (resets && eqb (bookRefusal t b) 0) (resetBook b) b
 
-  book-reset : Matches t (resetOf s) (movesTo b (pos (b .basis .start)))
+  book-reset : Matches t (resetOf s) (resetBook b)
   unfolding resetOf rereadOf
   book-reset =
       record {
@@ -93,7 +86,7 @@ module _ {t : List ℤ} {s : State} {b : Book} (g : Good s) (k : Kept t s) (m : 
   book-command ClearExtremes = record { levels = m .levels; seen = m .seen; basis = m .basis; reported = m .reported; offset = m .offset }
   book-command Reset =
       rw (refusal-same k m)
-      (both t (λ (x : Acted). x .state) (eqb (bookRefusal t b) 0) _ _ _ _ (λ _. book-reset) (λ _. m))
+      (both (eqb (bookRefusal t b) 0) _ _ _ _ (λ (x : Acted) (u : Book). Matches t (x .state) u) (λ _. book-reset) (λ _. m))
   book-command (Teach j) =
       by-test (eqb (refusalOf (Teach j) s) 0) (acted (teachOf s j) 0) (acted s (refusalOf (Teach j) s)) (λ (x : Acted). Matches t (x .state) b)
       (λ _. record {
@@ -121,7 +114,7 @@ book-input {t} {b} l i h x g k m =
     (λ n. rw (is-false (edgeAt (x .state) l i) n) m))
   where
     Moved-by : Bool → Book
-    Moved-by edge = cond ((edge && isReset (inputAt (x .state .table) i .action)) && eqb (bookRefusal t b) 0) (movesTo b (pos (b .basis .start))) b
+    Moved-by edge = cond ((edge && isReset (inputAt (x .state .table) i .action)) && eqb (bookRefusal t b) 0) (resetBook b) b
 
 -- ---- an event
 
@@ -141,7 +134,7 @@ module _ {t : List ℤ} {s : State} {b : Book} (g : Good s) (k : Kept t s) (m : 
   unfolding stepOf onTelegram onLevels onTick answerOf bookStep receivedOf rereadOf switchedOf displayedOf
   book-step (Telegram w) =
       rw (accepts-alike (k .alike) stored-layout w)
-      (both t (λ (a : Answer). a .state) (acceptsOf t w) _ _ _ _
+      (both (acceptsOf t w) _ _ _ _ (λ (a : Answer) (u : Book). Matches t (a .state) u)
       (λ _. record {
         levels = m .levels;
         seen = refl;
@@ -151,7 +144,8 @@ module _ {t : List ℤ} {s : State} {b : Book} (g : Good s) (k : Kept t s) (m : 
       }) (λ _. m))
   book-step (Levels l) =
       let q = book-commands l in
-      both t (λ (a : Answer). a .state) (leb l 7) _ _ _ _ (λ _. record { levels = refl; seen = q .seen; basis = q .basis; reported = q .reported; offset = q .offset }) (λ _. m)
+      both (leb l 7) _ _ _ _ (λ (a : Answer) (u : Book). Matches t (a .state) u)
+      (λ _. record { levels = refl; seen = q .seen; basis = q .basis; reported = q .reported; offset = q .offset }) (λ _. m)
   book-step (Tick ms) = record { levels = m .levels; seen = m .seen; basis = m .basis; reported = m .reported; offset = m .offset }
 
 -- ---- a run
@@ -173,7 +167,7 @@ Plain t b = T (b .seen) → b .basis ≡ basisOf t (b .telegram)
 module _ (t : List ℤ) (none : roundLoop t ≡ 0) where
   plain-input : (l i : ℕ) (b : Book) → Plain t b → Plain t (bookInput t l i b)
   unfolding bookInput
-  plain-input l i b p = by-test (resets t b l i) (movesTo b (pos (b .basis .start))) b (Plain t) (λ _. p) (λ _. p)
+  plain-input l i b p = by-test (resets t b l i) (resetBook b) b (Plain t) (λ _. p) (λ _. p)
 
   plain-step : (b : Book) (e : Event) → Plain t b → Plain t (bookStep t b e)
   unfolding bookStep

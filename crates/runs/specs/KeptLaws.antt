@@ -4,7 +4,7 @@ use mathlib.Core.Path.{_≡_, refl, sym, _∙_}
 use mathlib.Core.List.{List}
 use Prim.Native.Nat.{ℕ, _<_}
 use native.Mathlib.Omega.{arith}
-use lib.Dec.{T}
+use lib.Dec.{T, eqb}
 use lib.IntN.{ℤ, pos}
 use lib.ListN.{length-set}
 use Rattle.events.specs.declared.Event.{Event}
@@ -13,12 +13,12 @@ use Rattle.parameters.specs.Alike.{Alike, storedSlot}
 use Rattle.parameters.specs.Slots.{offsetSlot, preselectionSlot, offset, withOffset, withPreselection}
 use Rattle.parameters.specs.StoreLaws.{word-kept, alike-refl, alike-trans, offset-alike, preselection-alike, stored-scaling, stored-span, stored-points}
 use Rattle.reading.specs.Reading.{readingOf}
-use Rattle.reading.specs.ReadingLaws.{Zeroed, reading-zeroed}
+use Rattle.reading.specs.ReadingLaws.{Zeroed, reading-zeroed, reading-bit}
 use Rattle.reading.specs.AlikeLaws.{reading-alike}
 use Rattle.settings.specs.declared.Action.{Action}
 use Rattle.settings.specs.Settings.{Aimed, inputAt}
 use Rattle.state.specs.declared.State.{State}
-use Rattle.state.specs.State.{freshOf, withTable, withLevels, readAgain, rereadOf, receivedOf}
+use Rattle.state.specs.State.{freshOf, withTable, withLevels, errorOf, readAgain, rereadOf, receivedOf}
 use Rattle.inputs.specs.Commands.{Acted, acted, resetOf, clearLocksOf, clearExtremesOf, teachOf, commandOf}
 use Rattle.inputs.specs.CommandLaws.{by-command, by-input, input-aimed}
 use Rattle.inputs.specs.Levels.{inputOf, commandsOf}
@@ -31,6 +31,10 @@ pub record Kept (t : List ℤ) (s : State) : Type 0 where
   pub alike : Alike storedSlot (s .table) t
   pub read : T (s .live .seen) → s .live .reading ≡ readAgain s
   pub zeroed : Zeroed (s .live .reading .result) (errorNumber (s .live .reading .error))
+
+-- so error 3 is in force exactly where the error bit reports
+pub kept-bit : {t : List ℤ} {s : State} → Kept t s → T (s .live .seen) → eqb (errorOf s) 3 ≡ s .live .basis .reported
+kept-bit {t} {s} k y = rw (k .read y) (reading-bit (s .table) (s .live .basis))
 
 module _ (t : List ℤ) where
   pub kept-fresh : Kept t (freshOf t)

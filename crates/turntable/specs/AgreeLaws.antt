@@ -16,7 +16,7 @@ use Rattle.events.specs.declared.Event.the-variants.{Telegram, Levels, Tick}
 use Rattle.inputs.specs.Commands.{Acted, acted, resetRefusal, resetOf, clearLocksOf, extremesAt, clearExtremesOf, teachOf, refusalOf, carriedOut, marksAfter, commandOf}
 use Rattle.inputs.specs.CommandLaws.{good-input, input-aimed}
 use Rattle.inputs.specs.Levels.{edgeAt, inputOf, marksAt, commandsOf, marksLeft}
-use Rattle.integers.specs.ChoiceLaws.{by-test, is-true}
+use Rattle.integers.specs.ChoiceLaws.{by-test, both, is-true}
 use Rattle.integers.specs.Int.{P}
 use Rattle.integers.specs.Limit.{Z}
 use Rattle.integers.specs.ModLaws.{floor-nat, mod-below, mod-again}
@@ -35,9 +35,8 @@ use Rattle.reading.specs.AlikeLaws.{accepts-alike, directed-alike}
 use Rattle.reading.specs.Follow.{countAfter, followedOf, heldOf, basisAfter}
 use Rattle.reading.specs.FollowLaws.{by-follow}
 use Rattle.reading.specs.Reading.{acceptsOf, directedAt, basisOf, noHalves}
-use Rattle.reading.specs.ReadingLaws.{reading-bit}
 use Rattle.roundloop.specs.CountLaws.{first-is, counted-position}
-use Rattle.runs.specs.KeptLaws.{Kept, kept-fresh, kept-input, kept-step}
+use Rattle.runs.specs.KeptLaws.{Kept, kept-bit, kept-fresh, kept-input, kept-step}
 use Rattle.runs.specs.Run.{answersOf}
 use Rattle.settings.specs.declared.Action.{Action}
 use Rattle.settings.specs.declared.Action.the-variants.{None, Reset, Freeze, ClearLocks, ClearExtremes, Teach}
@@ -47,14 +46,13 @@ use Rattle.ssi.specs.Telegram.{errorReported}
 use Rattle.state.specs.declared.State.{State}
 use Rattle.state.specs.State.{freshOf, withTable, withBasis, withLevels, withSwitches, errorOf, halvesIn, rereadOf, receivedOf}
 use Rattle.reading.specs.declared.Reading.{Reading}
-use Rattle.state.specs.Extremes.{errorIn}
 use Rattle.state.specs.Valid.{Good}
 use Rattle.state.specs.ValidLaws.{good-fresh}
 use Rattle.switching.specs.Switching.{allTicked}
 use Rattle.turntable.specs.OldRule.{oldReceived, oldTelegram, oldStep, oldAnswers}
 use Rattle.turntable.specs.Turntable.{range, Same, AllSame, RulesAgree, barredAt, barredBy, barredIn}
 use Rattle.turntable.specs.TravelledLaws.{modulus-even}
-use Rattle.turntable.specs.TiedLaws.{both, Tables, Bases, Tied, tied, halves-tied, inputs-tied, settled-tied, answer-tied, reread-tied}
+use Rattle.turntable.specs.TiedLaws.{Tables, Bases, Tied, tied, halves-tied, inputs-tied, settled-tied, answer-tied, reread-tied}
 
 -- ---- a table that loads, with M a multiple of its R
 
@@ -120,7 +118,7 @@ module _ {t : List ℤ} (v : Valid t) (h : 0 < roundLoop t) (c : ℕ) (multiple 
 
   -- without error 3 the error bit does not report
   bit-off : {s : State} → Kept t s → T (s .live .seen) → eqb (errorOf s) 3 ≡ false → s .live .basis .reported ≡ false
-  bit-off {s} k y e = sym (reading-bit (s .table) (s .live .basis)) ∙ ap (λ (z : Reading). eqb (errorIn z) 3) (sym (k .read y)) ∙ e
+  bit-off k y e = sym (kept-bit k y) ∙ e
 
   -- a reset is refused by 13 in both panels or in neither, and by 12 in neither
   refusal-numbers : (seen : Bool) (error u p : ℕ) → (T seen → eqb error 3 ≡ false → u ≤ Z) → eqb (resetRefusal seen error p) 12 ≡ false →

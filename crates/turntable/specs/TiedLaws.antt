@@ -1,7 +1,7 @@
 -- Two states of a turntable's panel that tell the same: tables that differ in the offset alone, and there by a multiple of R; a count that is the other's position
 -- modulo R. Their distances are equal, so their readings and marks are, and what follows from them. For the theorem on the rule before K4. Assumes nothing.
 use mathlib.Core.Path.{_≡_, refl, sym, ap, _∙_}
-use mathlib.Core.Bool.{Bool, true, false, cond, not}
+use mathlib.Core.Bool.{Bool, true, false}
 use mathlib.Core.List.{List}
 use Prim.Native.Nat.{ℕ, _<_}
 use native.Mathlib.Omega.{arith}
@@ -28,11 +28,6 @@ use Rattle.settings.specs.Settings.{scalingOf, pointsOf, spanOf, preselectionsO
 use Rattle.state.specs.declared.State.{State}
 use Rattle.state.specs.State.{rereadOf}
 use Rattle.turntable.specs.Turntable.{Same}
-
--- two choices by one test
-pub both : {A B : Type 0} (c : Bool) (x y : A) (x′ y′ : B) (Q : A → B → Type 0) → (T c → Q x x′) → (T (not c) → Q y y′) → Q (cond c x y) (cond c x′ y′)
-both true x y x′ y′ Q f g = f tt
-both false x y x′ y′ Q f g = g tt
 
 -- ---- numbers: a count, and a position that it is modulo R
 

@@ -1,6 +1,6 @@
 -- The count of a run is that of the positions of its counted telegrams alone, and that is the first position and all moves together, modulo R. Paper 02, K4.
 use mathlib.Core.Path.{_≡_, refl, sym, ap, _∙_}
-use mathlib.Core.Bool.{Bool, true, false, cond, not, _&&_}
+use mathlib.Core.Bool.{true, false, cond}
 use mathlib.Core.List.{List, [], _∷_}
 use Prim.Native.Nat.{ℕ, suc, _+_, _-_, _^_, _<_}
 use native.Mathlib.Nat.{pow-suc}
@@ -11,7 +11,7 @@ use lib.IntN.{ℤ, pos, _+ℤ_}
 use lib.Pow.{pow-pos}
 use Rattle.events.specs.declared.Event.{Event}
 use Rattle.events.specs.declared.Event.the-variants.{Telegram, Levels, Tick}
-use Rattle.integers.specs.ChoiceLaws.{by-test}
+use Rattle.integers.specs.ChoiceLaws.{by-test, is-true, is-false}
 use Rattle.integers.specs.Int.{P}
 use Rattle.integers.specs.RingLaws.{var, lit, _⊕_, ring}
 use Rattle.integers.specs.Round.{floorMod}
@@ -23,13 +23,13 @@ use Rattle.reading.specs.FollowLaws.{by-follow}
 use Rattle.reading.specs.Reading.{acceptsOf, directedAt}
 use Rattle.roundloop.specs.Count.{countedOf}
 use Rattle.roundloop.specs.CountLaws.{Even, step-moved, first-is, counted-is}
-use Rattle.runs.specs.Book.{Book, freshBook, takes, turnsTo, movesTo, resets, bookInput, bookStep, bookFrom, bookOf}
+use Rattle.runs.specs.Book.{Book, freshBook, takes, turnsTo, resetBook, resets, bookInput, bookStep, bookFrom, bookOf}
 use Rattle.runs.specs.BookLaws.{book-run, book-fresh}
 use Rattle.runs.specs.KeptLaws.{kept-fresh}
 use Rattle.runs.specs.Run.{runOf}
 use Rattle.settings.specs.Settings.{layoutOf}
 use Rattle.ssi.specs.declared.Layout.{Layout}
-use Rattle.ssi.specs.Telegram.{errorReported, modulus}
+use Rattle.ssi.specs.Telegram.{modulus}
 use Rattle.state.specs.State.{freshOf}
 use Rattle.state.specs.ValidLaws.{good-fresh}
 use Rattle.turntable.specs.Turntable.{range, counts, countedIn, wayFrom, AllShort, together, AllTravelled}
@@ -81,7 +81,7 @@ module _ (t : List ℤ) (h : 0 < roundLoop t) where
 
   input-leaves : (l i : ℕ) (b : Book) → bookInput t l i b .basis ≡ b .basis
   unfolding bookInput
-  input-leaves l i b = by-test (resets t b l i) (movesTo b (pos (b .basis .start))) b (λ (x : Book). x .basis ≡ b .basis) (λ _. refl) (λ _. refl)
+  input-leaves l i b = by-test (resets t b l i) (resetBook b) b (λ (x : Book). x .basis ≡ b .basis) (λ _. refl) (λ _. refl)
 
   levels-leave : (b : Book) (l : ℕ) → bookStep t b (Levels l) .basis ≡ b .basis
   unfolding bookStep
@@ -93,13 +93,11 @@ module _ (t : List ℤ) (h : 0 < roundLoop t) where
   -- one telegram more, of what follows it
   telegram-counts : (b : Book) (w : ℕ) (ps : List ℕ) → U (bookStep t b (Telegram w)) ps ≡ U b (cond (counts t w) (directedAt t w ∷ ps) ps)
   unfolding bookStep followAll
-  telegram-counts b w ps = go (acceptsOf t w)
-    where
-      go : (a : Bool) → U (cond a (takes t b w) b) ps ≡ U b (cond (a && not (errorReported (layoutOf t) w)) (directedAt t w ∷ ps) ps)
-      go false = refl
-      go true =
-          by-follow t h (b .basis) w (λ (x : Basis). followAll (roundLoop t) (range t) x ps .start ≡ U b (cond (not (errorReported (layoutOf t) w)) (directedAt t w ∷ ps) ps))
-          (λ y. rw y (held-out (roundLoop t) (range t) (b .basis) ps)) (λ n. rw n)
+  telegram-counts b w ps =
+      by-test (acceptsOf t w) (takes t b w) b (λ (x : Book). U x ps ≡ U b (cond (counts t w) (directedAt t w ∷ ps) ps))
+      (λ a. by-follow t h (b .basis) w (λ (x : Basis). followAll (roundLoop t) (range t) x ps .start ≡ U b (cond (counts t w) (directedAt t w ∷ ps) ps))
+      (λ y. rw (is-true (acceptsOf t w) a, y) (held-out (roundLoop t) (range t) (b .basis) ps)) (λ n. rw (is-true (acceptsOf t w) a, n)))
+      (λ a. rw (is-false (acceptsOf t w) a))
 
   book-follows : (b : Book) (es : List Event) → bookFrom t b es .basis .start ≡ U b (countedIn t es)
   unfolding bookFrom bookStep countedIn followAll
