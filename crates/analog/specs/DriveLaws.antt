@@ -12,11 +12,12 @@ use lib.Ieee.{Float, binary32, ofInt, lt}
 use lib.Ieee.Exact.{HasValue}
 use Rattle.integers.specs.IntLaws.{ints, abs-is, excl}
 use Rattle.analog.specs.declared.Drive.{Drive}
+use Rattle.analog.specs.declared.Drive.the-variants.{Off}
 use Rattle.integers.specs.Fraction.{Same}
 use Rattle.analog.specs.FloatValue.{Is, valueOf}
 use Rattle.analog.specs.AnalogCode.{codeOf, CodeFits}
-use Rattle.analog.specs.CodeLaws.{code-fits}
-use Rattle.analog.specs.Drives.{factor, divisor, offset, analogValue, float, quotientOf, floatOf, Unrounded, driveOf, driveValue}
+use Rattle.analog.specs.CodeLaws.{code-fits, code-at-start}
+use Rattle.analog.specs.Drives.{factor, divisor, offset, analogValue, float, quotientOf, floatOf, Unrounded, driveOf, CodeDrive, driveValue}
 use Rattle.analog.specs.ExactLaws.{int-exact, cast-is, product-is, quotient-is, sum-is}
 use Rattle.analog.specs.FloatLaws.{is-same, lt-is, scaled-order, scaled-equal, same-trans, same-sym, same-refl}
 
@@ -122,3 +123,8 @@ pub equal-drives : (format : ℕ) (a b : ℤ) → CodeFits format a → CodeFits
 equal-drives format a b h k e =
     let x = driveValue (driveOf format a) in
     equal-worth format a b h k (subst (λ (d : Drive). Same x (driveValue d)) e (same-refl x (drive-worth format a h .0)))
+
+-- ---- the drive before the first telegram
+
+pub off-drive : (format : ℕ) → CodeDrive format (pos 0) Off
+off-drive format = record { on = false; is = refl; fits = subst (CodeFits format) (code-at-start format (pos 0) (pos 0)) (code-fits format (pos 0) (pos 0) (pos 0)) }

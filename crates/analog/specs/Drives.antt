@@ -1,11 +1,14 @@
 -- The drive: for every code within its ends, the float that drives the line is exactly the paper's fraction, and no float step rounds.
 -- Paper 01, "Analog value", second half, and "The form each place needs". Assumes nothing.
+use mathlib.Core.Path.{_≡_}
+use mathlib.Core.Bool.{Bool, cond}
 use Prim.Native.Nat.{ℕ, zero, suc, _*_}
 use lib.IntN.{ℤ, pos, _+ℤ_, _*ℤ_}
 use lib.Ieee.{Float, binary32, ofInt, mul, div, add}
 use Rattle.integers.specs.Fraction.{Frac, frac}
 use Rattle.analog.specs.declared.Drive.{Drive}
 use Rattle.analog.specs.declared.Drive.the-variants.{Off, Volts, Milliamps}
+use Rattle.analog.specs.AnalogCode.{CodeFits}
 use Rattle.analog.specs.FloatValue.{Is, valueOf}
 
 -- Analog value, "code × 10 ÷ 32,768; code × 20 ÷ 65,536; code × 16 ÷ 65,536 + 4"
@@ -53,6 +56,12 @@ pub record Unrounded (format : ℕ) (code : ℤ) : Type 0 where
 unfoldable pub driveOf : ℕ → ℤ → Drive
 driveOf zero code = Volts (floatOf zero code)
 driveOf (suc k) code = Milliamps (floatOf (suc k) code)
+
+-- a drive is that of a code within the ends of its format, or off
+pub record CodeDrive (format : ℕ) (code : ℤ) (d : Drive) : Type 0 where
+  pub on : Bool
+  pub is : d ≡ cond on (driveOf format code) Off
+  pub fits : CodeFits format code
 
 -- Analog value, "off means 0 V or 0 mA, also in format 2": what a drive is worth, in its unit
 abbrev pub driveValue : Drive → Frac

@@ -1,4 +1,4 @@
--- Every state that a command leaves is good: its table is valid, and its result is from −Z to Z.
+-- Every state that a command leaves is good: its table is valid, its result is from −Z to Z, and no float is a NaN.
 -- A reset stores a start up to Z, a teach stores the result, and nothing else writes the table. Paper 01, "Events and inputs".
 -- First the cases of a command and an input, as laws for any claim about the state they leave; last, the inputs one by one.
 use mathlib.Core.Path.{_≡_, refl}
@@ -9,6 +9,7 @@ use native.Mathlib.Omega.{arith}
 use borrow.Author.Tests.{eqb-true, ltb-false}
 use lib.Dec.{T, eqb, ltb}
 use lib.IntN.{ℤ}
+use Rattle.driverecord.specs.NumberLaws.{empty-numbers}
 use Rattle.integers.specs.ChoiceLaws.{by-test, is-true, is-false}
 use Rattle.integers.specs.Limit.{Z}
 use Rattle.parameters.specs.StoreLaws.{valid-offset, valid-preselection}
@@ -89,10 +90,10 @@ pub good-command : (a : Action) (s : State) → Aimed a → Good s → Good (com
 unfolding resetOf clearLocksOf clearExtremesOf teachOf
 good-command a s m g =
     by-command a s m Good g
-    (λ _ h. good-reread _ (valid-offset (g .table) (record { above = h; below = omega arith })))
-    (record { table = g .table; result = g .result })
-    (record { table = g .table; result = g .result })
-    (λ k h _ _. record { table = valid-preselection (g .table) (g .result) k h; result = g .result })
+    (λ _ h. good-reread _ (valid-offset (g .table) (record { above = h; below = omega arith })) (g .driven))
+    (record { table = g .table; result = g .result; drive = g .drive; driven = g .driven })
+    (record { table = g .table; result = g .result; drive = g .drive; driven = empty-numbers (g .driven .present) })
+    (λ k h _ _. record { table = valid-preselection (g .table) (g .result) k h; result = g .result; drive = g .drive; driven = g .driven })
 
 pub good-input : (l i : ℕ) (x : Acted) → Good (x .state) → Good (inputOf l i x .state)
 good-input l i x g = by-input l i x Good (λ _. good-command (inputAt (x .state .table) i .action) (x .state) (input-aimed (x .state .table) i) g) g

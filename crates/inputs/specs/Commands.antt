@@ -5,6 +5,7 @@ use mathlib.Core.Bool.{Bool, cond, not, _&&_, _||_}
 use Prim.Native.Nat.{ℕ}
 use lib.Dec.{eqb, ltb}
 use lib.IntN.{ℤ, pos}
+use Rattle.driverecord.specs.DriveRecord.{emptied}
 use Rattle.integers.specs.Limit.{Z}
 use Rattle.parameters.specs.Slots.{withOffset, withPreselection}
 use Rattle.settings.specs.declared.Action.{Action}
@@ -16,7 +17,7 @@ use Rattle.state.specs.declared.Live.{Live}
 use Rattle.state.specs.declared.Outcome.{Outcome}
 use Rattle.state.specs.declared.State.{State}
 use Rattle.state.specs.Extremes.{noExtremes, bothAt, errorIn}
-use Rattle.state.specs.State.{stateOf, setReading, setSwitches, withTable, errorOf, halvesIn, rereadOf}
+use Rattle.state.specs.State.{stateOf, setReading, setSwitches, setDriven, withTable, errorOf, halvesIn, rereadOf}
 
 -- what one command or several leave: the state, and the refusal of the lowest refused input or 0
 pub record Acted : Type 0 where
@@ -49,8 +50,9 @@ clearLocksOf s = stateOf (s .table) (locksCleared (s .live))
 unfoldable pub extremesAt : Bool → ℕ → ℤ → Extremes
 extremesAt seen error result = cond (seen && eqb error 0) (bothAt result) noExtremes
 
+-- K6: and the record's lowest and highest empty; the end of the event sets both to present where the line is driven (`cleared-there` of driverecord)
 abbrev pub extremesCleared : Live → Live
-extremesCleared l = setReading l (l .reading) (extremesAt (l .seen) (errorIn (l .reading)) (l .reading .result))
+extremesCleared l = setDriven (setReading l (l .reading) (extremesAt (l .seen) (errorIn (l .reading)) (l .reading .result))) (emptied (l .driven))
 
 unfoldable pub clearExtremesOf : State → State
 clearExtremesOf s = stateOf (s .table) (extremesCleared (s .live))

@@ -1,6 +1,6 @@
 // The three inputs: their commands on a panel's state, each on what the earlier ones left, where a refused one changes nothing; and the freeze.
 // The table is changed in place. Uses `settings` for what the inputs do, `parameters` to store, `reading` for the result of a reset, `state` for the state, and
-// `switching` for the locks.
+// `switching` for the locks, `driverecord` for the record.
 use settings::Action;
 use settings::Config;
 use state::Extremes;
@@ -84,13 +84,14 @@ fn extremes_at(seen: bool, error: u32, result: i32) -> Extremes
     }
 }
 
-// Clear least and greatest: both at the present result, or none.
+// Clear least and greatest: both at the present result, or none; and the record of the drive empty.
 fn clear_extremes(l: Live) -> Live
     ensures { λ r. ⌜ r ≡ extremesCleared l ⌝ }
 {
     let r = l.reading;
     let x = extremes_at(l.seen, state::error_in(r), r.result);
-    state::with_reading(l, r, x)
+    let was = l.driven;
+    state::with_record(state::with_reading(l, r, x), driverecord::empty(was))
 }
 
 // Teach: preselection k + 1 takes the result.
@@ -230,6 +231,7 @@ pub fn act(t: &mut [i32; 104], l: Live, levels: u8) -> Outcome
     requires { ⌜ Good (stateOf (now t) l) ⌝ }
     ensures is { λ r. ⌜ leftBy (now (t .exit)) r ≡ commandsOf (stateOf (now (t .entry)) l) levels ⌝ }
     ensures marks { λ r. ⌜ r .halves ≡ marksLeft (stateOf (now (t .entry)) l) levels ⌝ }
+    ensures valid { λ r. ⌜ Good (stateOf (now (t .exit)) (r .live)) ⌝ }
 {
     let mut x = Outcome {
         live: l,

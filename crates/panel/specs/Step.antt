@@ -1,5 +1,5 @@
 -- A step: an event and a state give the answer, with the new state in it; a refused event changes nothing.
--- Paper 01, "Events and inputs", "Switching" and "Where each check sits", event; paper 02, K7, the marks in the answer. Assumes nothing.
+-- Paper 01, "Events and inputs", "Switching" and "Where each check sits", event; paper 02, K6, the record, and K7, the marks in the answer. Assumes nothing.
 use mathlib.Core.Bool.{Bool, cond}
 use mathlib.Core.List.{List}
 use Prim.Native.Nat.{ℕ}
@@ -7,7 +7,7 @@ use lib.Dec.{leb}
 use lib.IntN.{ℤ}
 use Rattle.state.specs.declared.Outcome.{Outcome}
 use Rattle.state.specs.declared.State.{State}
-use Rattle.state.specs.State.{stateOf, withLevels, withShown, withSwitches, halvesIn, receivedOf}
+use Rattle.state.specs.State.{stateOf, withLevels, withShown, withSwitches, recordedOf, halvesIn, receivedOf}
 use Rattle.inputs.specs.Levels.{commandsOf, marksLeft}
 use Rattle.inputs.specs.Freeze.{frozen}
 use Rattle.events.specs.declared.Event.{Event}
@@ -62,21 +62,25 @@ displayedOf s = withShown s (shownAfter (s .table) (s .live .levels) (s .live .s
 abbrev pub settledOf : State → State
 settledOf s = displayedOf (switchedOf s)
 
+-- K6, the record "is brought up to date at the end of each accepted event"
+abbrev pub endedOf : State → State
+endedOf s = recordedOf (settledOf s)
+
 -- ---- the three events
 
 -- K7, "All three are no .. on a refused event .. and on any event but a telegram or a reset carried out"
 
 -- 11: a telegram bit above N is set
 unfoldable pub onTelegram : State → ℕ → Answer
-onTelegram s w = cond (acceptsOf (s .table) w) (answerOf (settledOf (receivedOf s w)) 0 (halvesIn (receivedOf s w))) (answerOf s 11 noHalves)
+onTelegram s w = cond (acceptsOf (s .table) w) (answerOf (endedOf (receivedOf s w)) 0 (halvesIn (receivedOf s w))) (answerOf s 11 noHalves)
 
 -- 10: levels above 7
 unfoldable pub onLevels : State → ℕ → Answer
-onLevels s l = cond (leb l 7) (answerOf (settledOf (withLevels (commandsOf s l .state) l)) (commandsOf s l .note) (marksLeft s l)) (answerOf s 10 noHalves)
+onLevels s l = cond (leb l 7) (answerOf (endedOf (withLevels (commandsOf s l .state) l)) (commandsOf s l .note) (marksLeft s l)) (answerOf s 10 noHalves)
 
 -- Switching, "ticks use it up": pulses, and through them signals and outputs
 unfoldable pub onTick : State → ℕ → Answer
-onTick s ms = answerOf (withSwitches s (allTicked ms (s .live .switches))) 0 noHalves
+onTick s ms = answerOf (recordedOf (withSwitches s (allTicked ms (s .live .switches)))) 0 noHalves
 
 unfoldable pub stepOf : State → Event → Answer
 stepOf s (Telegram w) = onTelegram s w

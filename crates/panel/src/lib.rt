@@ -12,7 +12,9 @@ use state::State;
 use switching::Switch;
 ghost use mathlib.Core.Path.{_≡_};
 ghost use mathlib.Core.Bool.{false};
-ghost use Rattle.state.specs.State.{stateOf, setSwitches};
+ghost use Rattle.driverecord.specs.DriveRecord.{presentOf};
+ghost use Rattle.driverecord.specs.Numbers.{Number, Numbers};
+ghost use Rattle.state.specs.State.{stateOf, setSwitches, setRecorded};
 ghost use Rattle.state.specs.Valid.{Good};
 ghost use Rattle.parameters.specs.Valid.{Valid};
 ghost use Rattle.reading.specs.Reading.{noHalves};
@@ -112,7 +114,7 @@ fn refused(l: Live, note: u8) -> Begun
 
 // A telegram: refused with 11, or read.
 fn on_telegram(t: &[i32; 104], l: Live, telegram: u32) -> Begun
-    requires { ⌜ Valid (now t) ⌝ }
+    requires { ⌜ Good (stateOf (now t) l) ⌝ }
     ensures { λ r. ⌜ answerAfter (now (t .entry)) r ≡ onTelegram (stateOf (now (t .entry)) l) telegram ⌝ }
 {
     if !reading::accepts(t, telegram) {
@@ -122,7 +124,7 @@ fn on_telegram(t: &[i32; 104], l: Live, telegram: u32) -> Begun
     let b = reading::basis_after(t, was, telegram);
     let m = reading::read(t, b);
     let r = m.reading;
-    let next = state::received(l, b, r);
+    let next = state::recorded(state::received(l, b, r));
     Begun {
         live: next,
         note: 0,
@@ -141,7 +143,7 @@ fn on_levels(t: &mut [i32; 104], l: Live, levels: u8) -> Begun
     }
     let x = inputs::act(t, l, levels);
     let n = x.live;
-    let next = state::with_levels(n, levels);
+    let next = state::recorded(state::with_levels(n, levels));
     Begun {
         live: next,
         note: x.note,
@@ -152,10 +154,11 @@ fn on_levels(t: &mut [i32; 104], l: Live, levels: u8) -> Begun
 
 // A tick: pulses are used up.
 fn on_tick(l: Live, ms: u16) -> Begun
-    ensures { λ r. ⌜ r ≡ record { live = setSwitches l (allTicked ms (l .switches)); note = 0; halves = noHalves; settles = false } ⌝ }
+    requires { ⌜ Numbers (l .driven) × Number (presentOf (l .reading .drive)) ⌝ }
+    ensures { λ r. ⌜ r ≡ record { live = setRecorded (setSwitches l (allTicked ms (l .switches))); note = 0; halves = noHalves; settles = false } ⌝ }
 {
     let switches = l.switches;
-    let next = state::with_switches(l, switching::tick_all(ms, switches));
+    let next = state::recorded(state::with_switches(l, switching::tick_all(ms, switches)));
     let settles = false;
     Begun {
         live: next,

@@ -1,5 +1,5 @@
 -- For every table that loads: a reading without error lies within 1/2 + S/2 of L(E), within 1/2 with linearization off, and every result is from −Z to Z,
--- 0 under an error.
+-- 0 under an error; its drive is that of its code, or off.
 -- Paper 01, demand 3's accuracy for one telegram.
 use mathlib.Core.Path.{_≡_, refl}
 use mathlib.Core.Bool.{Bool, true, false, cond}
@@ -9,6 +9,8 @@ use native.Mathlib.Omega.{arith}
 use lib.Dec.{eqb}
 use lib.IntN.{ℤ, pos, negℤ}
 use lib.Signed.{ltZ}
+use Rattle.analog.specs.CodeLaws.{code-fits}
+use Rattle.analog.specs.Drives.{CodeDrive}
 use Rattle.integers.specs.Limit.{Z}
 use Rattle.integers.specs.ChoiceLaws.{by-test}
 use Rattle.integers.specs.IntLaws.{excl, within}
@@ -20,10 +22,10 @@ use Rattle.measurement.specs.declared.Measured.{Measured}
 use Rattle.measurement.specs.AccuracyLaws.{reading-accurate}
 use Rattle.measurement.specs.Measure.{errorNumber, measured, judgedOf, valueOf, measuredOf}
 use Rattle.parameters.specs.Valid.{Valid}
-use Rattle.settings.specs.Settings.{scalingOf, pointsOf}
+use Rattle.settings.specs.Settings.{scalingOf, pointsOf, spanOf}
 use Rattle.settings.specs.SettingsLaws.{scaling-sound, points-ordered}
 use Rattle.reading.specs.declared.Basis.{Basis}
-use Rattle.reading.specs.Reading.{measuredAt, readingOf, curveFrom, slopeAt}
+use Rattle.reading.specs.Reading.{measuredAt, codeAt, driveAt, readingOf, curveFrom, slopeAt}
 
 pub accurate : {t : List ℤ} → Valid t → (b : Basis) → readingOf t b .error ≡ Error.None → Accurate (readingOf t b .result) (curveFrom t (b .start)) (slopeAt t)
 unfolding readingOf measuredAt curveFrom slopeAt scalingOf
@@ -79,3 +81,12 @@ judged-bit false v =
 pub reading-bit : (t : List ℤ) (b : Basis) → eqb (errorNumber (readingOf t b .error)) 3 ≡ b .reported
 unfolding readingOf measuredAt measuredOf
 reading-bit t b = judged-bit (b .reported) (valueOf (scalingOf t) (pointsOf t) (b .start))
+
+-- ---- the drive is that of the code, or off
+
+pub reading-drive : (t : List ℤ) (b : Basis) → CodeDrive (spanOf t .format) (readingOf t b .code) (readingOf t b .drive)
+unfolding readingOf driveAt codeAt
+reading-drive t b =
+    let a = spanOf t in
+    let m = measuredAt t b in
+    record { on = eqb (errorNumber (m .error)) 0; is = refl; fits = code-fits (a .format) (a .start) (a .end) (m .result) }

@@ -66,7 +66,7 @@ pub good-served : (node : ℕ) {s : State} → Good s → (f : List ℕ) → Goo
 unfolding freshOf
 good-served node {s} g f =
     by-served node s f (λ (x : Served). Good (x .state)) (λ reply n. g)
-    (λ register z e. let g = good-fresh (loads (writtenTable s register z) e) in record { table = g .table; result = g .result })
+    (λ register z e. let g = good-fresh (loads (writtenTable s register z) e) in record { table = g .table; result = g .result; drive = g .drive; driven = g .driven })
 
 -- every reply fits
 sent-fits : (due : Bool) (reply : Reply) → reply .length ≤ longestReply → sent due reply .length ≤ longestReply

@@ -11,7 +11,7 @@ use lib.ListN.{length}
 use Rattle.inputs.specs.Commands.{Acted, acted, resetOf, clearLocksOf, clearExtremesOf, teachOf, refusalOf, commandOf}
 use Rattle.inputs.specs.CommandLaws.{by-command, by-input, input-aimed}
 use Rattle.inputs.specs.Levels.{edgeAt, inputOf, commandsOf}
-use Rattle.state.specs.State.{freshOf, withLevels, withSwitches, rereadOf, receivedOf}
+use Rattle.state.specs.State.{freshOf, withLevels, withSwitches, recordedOf, rereadOf, receivedOf}
 use Rattle.events.specs.declared.Event.{Event}
 use Rattle.events.specs.declared.Event.the-variants.{Telegram, Levels, Tick}
 use Rattle.integers.specs.ChoiceLaws.{by-test}
@@ -30,7 +30,7 @@ use Rattle.switching.specs.Travel.{hysteretic}
 use Rattle.switching.specs.TravelLaws.{Turns, Lawful, stays, view}
 use Rattle.panel.specs.declared.Answer.{Answer}
 use Rattle.state.specs.declared.State.{State}
-use Rattle.panel.specs.Step.{answerOf, switchedOf, displayedOf, settledOf, onTelegram, onLevels, onTick, stepOf}
+use Rattle.panel.specs.Step.{answerOf, switchedOf, displayedOf, endedOf, onTelegram, onLevels, onTick, stepOf}
 use Rattle.panel.specs.ValidLaws.{by-switched, by-step}
 use Rattle.runs.specs.Run.{answersOf, tracked, seenIn, teaches, storesAt, storedBy, stored}
 use Rattle.runs.specs.RunLaws.{step-own, own-result, own-error}
@@ -92,20 +92,20 @@ input-stores l i x n =
     (λ y. command-stores (inputAt (x .state .table) i .action) (x .state) (input-aimed (x .state .table) i) (and-no (edgeAt (x .state) l i) (teaches (inputAt (x .state .table) i .action) (x .state)) n y))
     refl
 
-settled-table : (s : State) → settledOf s .table ≡ s .table
+ended-table : (s : State) → endedOf s .table ≡ s .table
 unfolding switchedOf displayedOf
-settled-table s = refl
+ended-table s = refl
 
 pub step-stores : (s : State) (e : Event) → T (not (storedBy s e)) → preselectionsIn (stepOf s e .state) ≡ preselectionsIn s
 unfolding stepOf onTelegram onLevels onTick answerOf storedBy commandsOf rereadOf receivedOf
 step-stores s (Telegram w) n =
     by-test (acceptsOf (s .table) w) _ _ (λ (a : Answer). preselectionsIn (a .state) ≡ preselectionsIn s)
-    (λ _. rw (settled-table (receivedOf s w))) (λ _. refl)
+    (λ _. rw (ended-table (receivedOf s w))) (λ _. refl)
 step-stores s (Levels l) n =
     by-test (leb l 7) _ _ (λ (a : Answer). preselectionsIn (a .state) ≡ preselectionsIn s)
     (λ y. let m = and-no (leb l 7) (storesAt l 0 x₀ || (storesAt l 1 x₁ || storesAt l 2 x₂)) n y in
     let m₁ = or-right (storesAt l 0 x₀) (storesAt l 1 x₁ || storesAt l 2 x₂) m in
-    rw (settled-table (withLevels (commandsOf s l .state) l))
+    rw (ended-table (withLevels (commandsOf s l .state) l))
     (input-stores l 2 x₂ (or-right (storesAt l 1 x₁) (storesAt l 2 x₂) m₁)
     ∙ input-stores l 1 x₁ (or-left (storesAt l 1 x₁) (storesAt l 2 x₂) m₁)
     ∙ input-stores l 0 x₀ (or-left (storesAt l 0 x₀) (storesAt l 1 x₁ || storesAt l 2 x₂) m)))
@@ -231,10 +231,10 @@ module _ (ps : List Preselection) (k : ℕ) (small : k < 4) (hy : T (hysteretic 
   law-same : (s : State) → Ready s → Law s s
   law-same s i = record { turns = stays _ _ _ (switchIn s k .on); ready = i }
 
-  law-settled : (s u : State) → Ready s → Left s u k → preselectionsIn u ≡ ps → Law s (settledOf u)
+  law-ended : (s u : State) → Ready s → Left s u k → preselectionsIn u ≡ ps → Law s (endedOf u)
   unfolding displayedOf
-  law-settled s u i q e =
-      by-switched u (λ (v : State). Law s (displayedOf v))
+  law-ended s u i q e =
+      by-switched u (λ (v : State). Law s (recordedOf (displayedOf v)))
       (λ _. record {
         turns =
             subst (λ (w : Switch). Obeys (u .live .reading .result) (switchIn s k .on) (w .on)) (sym switch-is)
@@ -256,7 +256,7 @@ module _ (ps : List Preselection) (k : ℕ) (small : k < 4) (hy : T (hysteretic 
       switch-is : switchAt (allSwitched (preselectionsIn u) (u .live .reading .result) (u .live .switches)) k ≡ switchedAt ps (u .live .reading .result) k (switchIn u k)
       switch-is = all-switched-at (u .live .switches) (q .four) k small (preselectionsIn u) (u .live .reading .result) ∙ rw e
 
-  law-ticked : (s : State) (ms : ℕ) → Ready s → Law s (withSwitches s (allTicked ms (s .live .switches)))
+  law-ticked : (s : State) (ms : ℕ) → Ready s → Law s (recordedOf (withSwitches s (allTicked ms (s .live .switches))))
   law-ticked s ms i =
       record {
         turns = subst (λ (w : Switch). Obeys (s .live .reading .result) (switchIn s k .on) (w .on)) (sym switch-is) (stays _ _ _ (switchIn s k .on));
@@ -270,11 +270,11 @@ module _ (ps : List Preselection) (k : ℕ) (small : k < 4) (hy : T (hysteretic 
   unfolding rereadOf receivedOf
   law-step s e i =
       by-step s e (λ (u : State). preselectionsIn u ≡ ps → Law s u) (λ _. law-same s i)
-      (λ w h. law-settled s (receivedOf s w) i (record { four = i .four; on-same = refl; released-same = refl })
-      (ap preselectionsOf (sym (settled-table (receivedOf s w))) ∙ h))
+      (λ w h. law-ended s (receivedOf s w) i (record { four = i .four; on-same = refl; released-same = refl })
+      (ap preselectionsOf (sym (ended-table (receivedOf s w))) ∙ h))
       (λ l h. let q = left-commands k small s l (i .four) in
-      law-settled s (withLevels (commandsOf s l .state) l) i (record { four = q .four; on-same = q .on-same; released-same = q .released-same })
-      (ap preselectionsOf (sym (settled-table (withLevels (commandsOf s l .state) l))) ∙ h))
+      law-ended s (withLevels (commandsOf s l .state) l) i (record { four = q .four; on-same = q .on-same; released-same = q .released-same })
+      (ap preselectionsOf (sym (ended-table (withLevels (commandsOf s l .state) l))) ∙ h))
       (λ ms _. law-ticked s ms i)
 
   -- ---- a run

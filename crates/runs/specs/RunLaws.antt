@@ -61,7 +61,7 @@ unfolding lastOf answersOf
 last-own a [] o = o
 last-own a (e ∷ es) o = last-own (stepOf (a .state) e) es (step-own (a .state) e)
 
--- so the result and the error last answered are those of the state in the end
+-- so the result, the error and the drive last answered are those of the state in the end
 module _ {a : Answer} (o : Own a) where
   pub own-result : a .result ≡ a .state .live .reading .result
   unfolding answerOf
@@ -70,3 +70,7 @@ module _ {a : Answer} (o : Own a) where
   pub own-error : a .error ≡ a .state .live .reading .error
   unfolding answerOf
   own-error = rw o
+
+  pub own-drive : a .drive ≡ a .state .live .reading .drive
+  unfolding answerOf
+  own-drive = rw o

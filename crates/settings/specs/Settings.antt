@@ -89,7 +89,7 @@ actionNumber ClearLocks = 3
 actionNumber ClearExtremes = 4
 actionNumber (Teach k) = 5 + k
 
--- whether an action is the reset, the freeze, or a teach
+-- whether an action is the reset, the freeze, the clear of least and greatest, or a teach
 abbrev pub isReset : Action → Bool
 isReset None = false
 isReset Reset = true
@@ -105,6 +105,14 @@ isFreeze Freeze = true
 isFreeze ClearLocks = false
 isFreeze ClearExtremes = false
 isFreeze (Teach k) = false
+
+abbrev pub isClearExtremes : Action → Bool
+isClearExtremes None = false
+isClearExtremes Reset = false
+isClearExtremes Freeze = false
+isClearExtremes ClearLocks = false
+isClearExtremes ClearExtremes = true
+isClearExtremes (Teach k) = false
 
 abbrev pub isTeach : Action → Bool
 isTeach None = false

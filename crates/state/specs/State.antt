@@ -1,10 +1,12 @@
--- The state of a panel, its fresh state, its parts set anew, and the result worked out. Paper 01, "Events and inputs", "a fresh state".
+-- The state of a panel, its fresh state, its parts set anew, and the result worked out. Paper 01, "Events and inputs", "a fresh state"; paper 02, K6, the record.
 -- The table in force stands in the state: a reset stores its offset, a teach a preselection. The live values stand beside it. Assumes nothing.
 use mathlib.Core.Bool.{true, false}
 use mathlib.Core.List.{List, [], _∷_}
 use Prim.Native.Nat.{ℕ}
 use lib.IntN.{ℤ, pos}
 use Rattle.analog.specs.declared.Drive.the-variants.{Off}
+use Rattle.driverecord.specs.declared.DriveRecord.{DriveRecord}
+use Rattle.driverecord.specs.DriveRecord.{freshRecord, updatedOf}
 use Rattle.measurement.specs.declared.Error.the-variants as Error
 use Rattle.reading.specs.declared.Basis.{Basis}
 use Rattle.reading.specs.declared.Reading.{Reading}
@@ -21,7 +23,7 @@ use Rattle.state.specs.Extremes.{noExtremes, errorIn, widenedOf}
 abbrev pub noReading : Reading
 noReading = record { result = pos 0; error = Error.None; code = pos 0; drive = Off }
 
--- levels low, no telegram, result and shown 0, no least or greatest, conditions off
+-- levels low, no telegram, result and shown 0, no least or greatest, conditions off; K6, present zero, lowest and highest empty
 abbrev pub freshLive : Live
 freshLive =
     record {
@@ -31,6 +33,7 @@ freshLive =
       reading = noReading;
       shown = pos 0;
       extremes = noExtremes;
+      driven = freshRecord;
       switches = freshSwitch ∷ freshSwitch ∷ freshSwitch ∷ freshSwitch ∷ [];
     }
 
@@ -44,24 +47,32 @@ freshOf t = stateOf t freshLive
 -- ---- one of the live values set anew
 
 abbrev pub setLevels : Live → ℕ → Live
-setLevels l x = record { levels = x; seen = l .seen; basis = l .basis; reading = l .reading; shown = l .shown; extremes = l .extremes; switches = l .switches }
+setLevels l x = record { levels = x; seen = l .seen; basis = l .basis; reading = l .reading; shown = l .shown; extremes = l .extremes; driven = l .driven; switches = l .switches }
 
 -- a telegram was accepted, and its result starts from this
 abbrev pub setBasis : Live → Basis → Live
-setBasis l x = record { levels = l .levels; seen = true; basis = x; reading = l .reading; shown = l .shown; extremes = l .extremes; switches = l .switches }
+setBasis l x = record { levels = l .levels; seen = true; basis = x; reading = l .reading; shown = l .shown; extremes = l .extremes; driven = l .driven; switches = l .switches }
 
 abbrev pub setReading : Live → Reading → Extremes → Live
-setReading l x y = record { levels = l .levels; seen = l .seen; basis = l .basis; reading = x; shown = l .shown; extremes = y; switches = l .switches }
+setReading l x y = record { levels = l .levels; seen = l .seen; basis = l .basis; reading = x; shown = l .shown; extremes = y; driven = l .driven; switches = l .switches }
 
 -- a reading, and least and greatest with it
 abbrev pub setRead : Live → Reading → Live
 setRead l x = setReading l x (widenedOf (l .extremes) x)
 
 abbrev pub setShown : Live → ℤ → Live
-setShown l x = record { levels = l .levels; seen = l .seen; basis = l .basis; reading = l .reading; shown = x; extremes = l .extremes; switches = l .switches }
+setShown l x = record { levels = l .levels; seen = l .seen; basis = l .basis; reading = l .reading; shown = x; extremes = l .extremes; driven = l .driven; switches = l .switches }
 
 abbrev pub setSwitches : Live → List Switch → Live
-setSwitches l x = record { levels = l .levels; seen = l .seen; basis = l .basis; reading = l .reading; shown = l .shown; extremes = l .extremes; switches = x }
+setSwitches l x = record { levels = l .levels; seen = l .seen; basis = l .basis; reading = l .reading; shown = l .shown; extremes = l .extremes; driven = l .driven; switches = x }
+
+-- K6: the record
+abbrev pub setDriven : Live → DriveRecord → Live
+setDriven l x = record { levels = l .levels; seen = l .seen; basis = l .basis; reading = l .reading; shown = l .shown; extremes = l .extremes; driven = x; switches = l .switches }
+
+-- K6, "brought up to date": with the drive of the reading
+abbrev pub setRecorded : Live → Live
+setRecorded l = setDriven l (updatedOf (l .driven) (l .reading .drive))
 
 -- ---- one part of the state set anew
 
@@ -79,6 +90,9 @@ withShown s x = stateOf (s .table) (setShown (s .live) x)
 
 abbrev pub withSwitches : State → List Switch → State
 withSwitches s x = stateOf (s .table) (setSwitches (s .live) x)
+
+abbrev pub recordedOf : State → State
+recordedOf s = stateOf (s .table) (setRecorded (s .live))
 
 -- ---- the result worked out
 

@@ -1,12 +1,16 @@
 // The state of a panel: the table in force and the live values beside it; its fresh state, a telegram taken, and the result worked out again.
-// Uses `reading` for what a reading is, `switching` for the switches, and the error and drive enums of `measurement` and `analog`. It knows no input and no command.
+// Uses `reading` for what a reading is, `switching` for the switches, `driverecord` for the record of the drive, and the error and drive enums of `measurement` and
+// `analog`. It knows no input and no command.
+use driverecord::DriveRecord;
 use reading::Basis;
 use reading::Reading;
 use switching::Switch;
 ghost use mathlib.Core.Bool.{cond};
 ghost use mathlib.Core.Path.{_≡_};
 ghost use lib.Signed.{ltZ};
-ghost use Rattle.state.specs.State.{freshOf, setLevels, setBasis, setReading, setRead, setShown, setSwitches};
+ghost use Rattle.state.specs.State.{freshOf, setLevels, setBasis, setReading, setRead, setShown, setSwitches, setDriven, setRecorded};
+ghost use Rattle.driverecord.specs.DriveRecord.{presentOf};
+ghost use Rattle.driverecord.specs.Numbers.{Number, Numbers};
 ghost use Rattle.state.specs.Extremes.{errorIn, widenedOf};
 
 // The least and the greatest error-free result.
@@ -30,6 +34,8 @@ pub struct Live {
     // The shown value.
     pub shown: i32,
     pub extremes: Extremes,
+    // Present, lowest and highest drive.
+    pub driven: DriveRecord,
     // The four preselections' conditions, pulses and locks.
     pub switches: [Switch; 4],
 }
@@ -77,6 +83,7 @@ pub fn fresh(table: [i32; 104]) -> State
                 least: 0,
                 greatest: 0,
             },
+            driven: driverecord::fresh(),
             switches: [off; 4],
         },
     }
@@ -188,4 +195,24 @@ pub fn settled(l: Live, switches: [Switch; 4], shown: i32) -> Live
     n.switches = switches;
     n.shown = shown;
     n
+}
+
+// Another record of the drive.
+pub fn with_record(l: Live, driven: DriveRecord) -> Live
+    ensures { λ r. ⌜ r ≡ setDriven l driven ⌝ }
+{
+    let mut n = l;
+    n.driven = driven;
+    n
+}
+
+// The record brought up to date with the drive, as each accepted event ends.
+pub fn recorded(l: Live) -> Live
+    requires { ⌜ Numbers (l .driven) × Number (presentOf (l .reading .drive)) ⌝ }
+    ensures { λ r. ⌜ r ≡ setRecorded l ⌝ }
+{
+    let was = l.driven;
+    let reading = l.reading;
+    let drive = reading.drive;
+    with_record(l, driverecord::updated(was, drive))
 }

@@ -52,7 +52,7 @@ use Rattle.switching.specs.Switching.{allTicked}
 use Rattle.turntable.specs.OldRule.{oldReceived, oldTelegram, oldStep, oldAnswers}
 use Rattle.turntable.specs.Turntable.{range, Same, AllSame, RulesAgree, barredAt, barredBy, barredIn}
 use Rattle.turntable.specs.TravelledLaws.{modulus-even}
-use Rattle.turntable.specs.TiedLaws.{Tables, Bases, Tied, tied, halves-tied, inputs-tied, settled-tied, answer-tied, reread-tied}
+use Rattle.turntable.specs.TiedLaws.{Tables, Bases, Tied, tied, halves-tied, inputs-tied, recorded-tied, answer-tied, ended-tied, reread-tied}
 
 -- ---- a table that loads, with M a multiple of its R
 
@@ -71,7 +71,7 @@ module _ {t : List ℤ} (v : Valid t) (h : 0 < roundLoop t) (c : ℕ) (multiple 
   unfolding freshOf
   fresh-tied =
       tied (record { alike = alike-refl t; long = refl; held = λ k _. refl; offsets = refl })
-      (record { reported = refl; count = λ n. absurd n; start = λ _. ap pos (sym (mod-eq-of-lt h)) ∙ sym (floor-nat 0 R h) }) refl refl refl refl refl refl
+      (record { reported = refl; count = λ n. absurd n; start = λ _. ap pos (sym (mod-eq-of-lt h)) ∙ sym (floor-nat 0 R h) }) refl refl refl refl refl refl refl
 
   -- ---- a telegram
 
@@ -108,7 +108,7 @@ module _ {t : List ℤ} (v : Valid t) (h : 0 < roundLoop t) (c : ℕ) (multiple 
     unfolding receivedOf oldReceived
     received-tied w =
         reread-tied h (withBasis s (basisAfter (s .table) (s .live .basis) w)) (withBasis o (basisOf (o .table) w)) (loop-kept k) (x .tables) (bases w)
-        (x .levels) refl (x .shown) (x .extremes) (x .switches)
+        (x .levels) refl (x .shown) (x .extremes) (x .driven) (x .switches)
 
     received-halves : (w : ℕ) → halvesIn (receivedOf s w) ≡ halvesIn (oldReceived o w)
     unfolding receivedOf oldReceived rereadOf
@@ -224,7 +224,7 @@ module _ {t : List ℤ} (v : Valid t) (h : 0 < roundLoop t) (c : ℕ) (multiple 
     unfolding resetOf
     reset-tied y =
         reread-tied h (withTable s (withOffset (s .table) u)) (withTable o (withOffset (o .table) p)) reset-loop (reset-tables g x (unreported y)) (x .basis)
-        (x .levels) (x .seen) (x .shown) (x .extremes) (x .switches)
+        (x .levels) (x .seen) (x .shown) (x .extremes) (x .driven) (x .switches)
 
     reset-halves : T (eqb (refusalOf Reset s) 0) → halvesIn (resetOf s) ≡ halvesIn (resetOf o)
     unfolding resetOf rereadOf
@@ -233,7 +233,7 @@ module _ {t : List ℤ} (v : Valid t) (h : 0 < roundLoop t) (c : ℕ) (multiple 
     -- the same live values, and tables that are tied
     kept-live : {a b : List ℤ} → Tables R a b → Ties (withTable s a) (withTable o b)
     kept-live z =
-        tied z (x .basis) (x .levels) (x .seen) (x .reading) (x .shown) (x .extremes) (x .switches)
+        tied z (x .basis) (x .levels) (x .seen) (x .reading) (x .shown) (x .extremes) (x .driven) (x .switches)
 
     command-tied : (a : Action) → Aimed a → eqb (refusalOf a o) 12 ≡ false → Left (commandOf a s) (commandOf a o)
     unfolding commandOf carriedOut clearLocksOf extremesAt clearExtremesOf teachOf
@@ -250,9 +250,9 @@ module _ {t : List ℤ} (v : Valid t) (h : 0 < roundLoop t) (c : ℕ) (multiple 
         done Freeze m y = x
         done Reset m y = reset-tied y
         done ClearLocks m y =
-            tied (x .tables) (x .basis) (x .levels) (x .seen) (x .reading) (x .shown) (x .extremes) (rw (x .switches))
+            tied (x .tables) (x .basis) (x .levels) (x .seen) (x .reading) (x .shown) (x .extremes) (x .driven) (rw (x .switches))
         done ClearExtremes m y =
-            tied (x .tables) (x .basis) (x .levels) (x .seen) (x .reading) (x .shown) (rw (x .seen, x .reading)) (x .switches)
+            tied (x .tables) (x .basis) (x .levels) (x .seen) (x .reading) (x .shown) (rw (x .seen, x .reading)) (rw (x .driven)) (x .switches)
         done (Teach j) m y =
             kept-live
             (subst (λ (z : ℤ). Tables R (withPreselection (s .table) j r) (withPreselection (o .table) j z)) (ap (λ (z : Reading). z .result) (x .reading))
@@ -356,27 +356,27 @@ module _ {t : List ℤ} (v : Valid t) (h : 0 < roundLoop t) (c : ℕ) (multiple 
 
   levels-set : {s o : State} → Ties s o → (l : ℕ) → Ties (withLevels s l) (withLevels o l)
   levels-set x l =
-      tied (x .tables) (x .basis) refl (x .seen) (x .reading) (x .shown) (x .extremes) (x .switches)
+      tied (x .tables) (x .basis) refl (x .seen) (x .reading) (x .shown) (x .extremes) (x .driven) (x .switches)
 
   ticked : {s o : State} → Ties s o → (ms : ℕ) → Ties (withSwitches s (allTicked ms (s .live .switches))) (withSwitches o (allTicked ms (o .live .switches)))
   ticked x ms =
-      tied (x .tables) (x .basis) (x .levels) (x .seen) (x .reading) (x .shown) (x .extremes) (rw (x .switches))
+      tied (x .tables) (x .basis) (x .levels) (x .seen) (x .reading) (x .shown) (x .extremes) (x .driven) (rw (x .switches))
 
   step-tied : (s o : State) → Good s → Kept t s → Ties s o → (e : Event) → barredBy o e ≡ false → Stepped (stepOf s e) (oldStep o e)
   unfolding stepOf onTelegram oldStep oldTelegram onLevels onTick barredBy
   step-tied s o g k x (Telegram w) n =
       rw (accepts-alike (x .tables .alike) stored-layout w)
       (both (acceptsOf (o .table) w) _ _ _ _ Stepped
-      (λ _. stepped (settled-tied (received-tied k x w)) 0 0 _ _ refl (received-halves k x w)) (λ _. stepped x 11 11 noHalves noHalves refl refl))
+      (λ _. stepped (ended-tied (received-tied k x w)) 0 0 _ _ refl (received-halves k x w)) (λ _. stepped x 11 11 noHalves noHalves refl refl))
   step-tied s o g k x (Levels l) n =
       both (leb l 7) _ _ _ _ Stepped
       (λ y. let m = and-second (leb l 7) _ n (is-true (leb l 7) y) in
       let m₁ = or-both (barredAt l 0 (acted o 0)) _ m in
       let m₂ = or-both (barredAt l 1 (inputOf l 0 (acted o 0))) _ (m₁ .1) in
       let z = commands-tied s o l g k x (m₁ .0) (m₂ .0) (m₂ .1) in
-      stepped (settled-tied (levels-set (z .state) l)) _ _ _ _ (z .note) (marks-left s o l g k x (m₁ .0) (m₂ .0) (m₂ .1)))
+      stepped (ended-tied (levels-set (z .state) l)) _ _ _ _ (z .note) (marks-left s o l g k x (m₁ .0) (m₂ .0) (m₂ .1)))
       (λ _. stepped x 10 10 noHalves noHalves refl refl)
-  step-tied s o g k x (Tick ms) n = stepped (ticked x ms) 0 0 noHalves noHalves refl refl
+  step-tied s o g k x (Tick ms) n = stepped (recorded-tied (ticked x ms)) 0 0 noHalves noHalves refl refl
 
   run-tied : (s o : State) → Good s → Kept t s → Ties s o → (es : List Event) → barredIn oldStep o es ≡ false → AllSame (answersOf s es) (oldAnswers o es)
   unfolding answersOf oldAnswers barredIn AllSame

@@ -6,7 +6,7 @@ use Prim.Native.Nat.{ℕ}
 use Rattle.events.specs.declared.Event.{Event}
 use Rattle.events.specs.declared.Event.the-variants.{Telegram, Levels, Tick}
 use Rattle.panel.specs.declared.Answer.{Answer}
-use Rattle.panel.specs.Step.{answerOf, settledOf, onLevels, onTick}
+use Rattle.panel.specs.Step.{answerOf, endedOf, onLevels, onTick}
 use Rattle.reading.specs.Reading.{acceptsOf, basisOf, noHalves}
 use Rattle.state.specs.declared.State.{State}
 use Rattle.state.specs.State.{withBasis, halvesIn, rereadOf}
@@ -16,7 +16,7 @@ unfoldable pub oldReceived : State → ℕ → State
 oldReceived s w = rereadOf (withBasis s (basisOf (s .table) w))
 
 unfoldable pub oldTelegram : State → ℕ → Answer
-oldTelegram s w = cond (acceptsOf (s .table) w) (answerOf (settledOf (oldReceived s w)) 0 (halvesIn (oldReceived s w))) (answerOf s 11 noHalves)
+oldTelegram s w = cond (acceptsOf (s .table) w) (answerOf (endedOf (oldReceived s w)) 0 (halvesIn (oldReceived s w))) (answerOf s 11 noHalves)
 
 -- levels and ticks have not changed: a reset stores what the result starts from, here p
 unfoldable pub oldStep : State → Event → Answer

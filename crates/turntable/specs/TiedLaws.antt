@@ -17,7 +17,7 @@ use Rattle.measurement.specs.declared.Measurement.{Measurement}
 use Rattle.measurement.specs.declared.Scaling.{Scaling}
 use Rattle.measurement.specs.Curve.{linearizedBy}
 use Rattle.measurement.specs.Measure.{measured, distanceOf, distanceAt, scaledAt, scaledBy, judgedOf, usedPoints, valueOf, measuredOf, scalingHalf, lineHalf, measurementOf}
-use Rattle.panel.specs.Step.{answerOf, switchesAfter, switchedOf, shownAfter, displayedOf, settledOf}
+use Rattle.panel.specs.Step.{answerOf, switchesAfter, switchedOf, shownAfter, displayedOf, settledOf, endedOf}
 use Rattle.parameters.specs.Alike.{Alike, storedSlot}
 use Rattle.parameters.specs.Slots.{natAt, offset, roundLoop, preselection}
 use Rattle.parameters.specs.StoreLaws.{stored-span, stored-points, stored-input, stored-preselection}
@@ -26,7 +26,7 @@ use Rattle.reading.specs.Reading.{measuredAt, measurementAt, readingOf, noHalve
 use Rattle.settings.specs.AlikeLaws.{points-alike, span-alike, input-alike, preselections-alike}
 use Rattle.settings.specs.Settings.{scalingOf, pointsOf, spanOf, preselectionsOf, inputAt}
 use Rattle.state.specs.declared.State.{State}
-use Rattle.state.specs.State.{rereadOf}
+use Rattle.state.specs.State.{recordedOf, rereadOf}
 use Rattle.turntable.specs.Turntable.{Same}
 
 -- ---- numbers: a count, and a position that it is modulo R
@@ -148,12 +148,13 @@ pub record Tied (R : ℕ) (s o : State) : Type 0 where
   pub reading : s .live .reading ≡ o .live .reading
   pub shown : s .live .shown ≡ o .live .shown
   pub extremes : s .live .extremes ≡ o .live .extremes
+  pub driven : s .live .driven ≡ o .live .driven
   pub switches : s .live .switches ≡ o .live .switches
 
 pub tied : {R : ℕ} {s o : State} → Tables R (s .table) (o .table) → Bases R (s .live .basis) (o .live .basis) → s .live .levels ≡ o .live .levels →
     s .live .seen ≡ o .live .seen → s .live .reading ≡ o .live .reading → s .live .shown ≡ o .live .shown → s .live .extremes ≡ o .live .extremes →
-    s .live .switches ≡ o .live .switches → Tied R s o
-tied t b l e r h x w = record { tables = t; basis = b; levels = l; seen = e; reading = r; shown = h; extremes = x; switches = w }
+    s .live .driven ≡ o .live .driven → s .live .switches ≡ o .live .switches → Tied R s o
+tied t b l e r h x d w = record { tables = t; basis = b; levels = l; seen = e; reading = r; shown = h; extremes = x; driven = d; switches = w }
 
 module _ {R : ℕ} {s o : List ℤ} (x : Tables R s o) where
   preselections-tied : preselectionsOf s ≡ preselectionsOf o
@@ -176,10 +177,12 @@ module _ {R : ℕ} {s o : State} (x : Tied R s o) where
   unfolding switchesAfter
   switches-tied = rw (preselections-tied (x .tables), x .seen, x .reading, x .switches)
 
-  pub settled-tied : Tied R (settledOf s) (settledOf o)
+  pub recorded-tied : Tied R (recordedOf s) (recordedOf o)
+  recorded-tied = tied (x .tables) (x .basis) (x .levels) (x .seen) (x .reading) (x .shown) (x .extremes) (rw (x .driven, x .reading)) (x .switches)
+
+  settled-tied : Tied R (settledOf s) (settledOf o)
   unfolding displayedOf switchedOf
-  settled-tied =
-      tied (x .tables) (x .basis) (x .levels) (x .seen) (x .reading) shown-tied (x .extremes) switches-tied
+  settled-tied = tied (x .tables) (x .basis) (x .levels) (x .seen) (x .reading) shown-tied (x .extremes) (x .driven) switches-tied
 
   pub answer-tied : (note note′ halves halves′ : ℕ) → note ≡ note′ → halves ≡ halves′ → Same (answerOf s note halves) (answerOf o note′ halves′)
   unfolding answerOf
@@ -193,15 +196,20 @@ module _ {R : ℕ} {s o : State} (x : Tied R s o) where
         switches = x .switches;
         outputs = rw (preselections-tied (x .tables), x .switches);
         extremes = x .extremes;
+        driven = x .driven;
         note = e;
         halves = f;
       }
 
+-- the end of an event
+pub ended-tied : {R : ℕ} {s o : State} → Tied R s o → Tied R (endedOf s) (endedOf o)
+ended-tied x = recorded-tied (settled-tied x)
+
 -- the result worked out again
 pub reread-tied : {R : ℕ} → 0 < R → (s o : State) → roundLoop (s .table) ≡ R → Tables R (s .table) (o .table) → Bases R (s .live .basis) (o .live .basis) →
     s .live .levels ≡ o .live .levels → s .live .seen ≡ o .live .seen → s .live .shown ≡ o .live .shown → s .live .extremes ≡ o .live .extremes →
-    s .live .switches ≡ o .live .switches → Tied R (rereadOf s) (rereadOf o)
+    s .live .driven ≡ o .live .driven → s .live .switches ≡ o .live .switches → Tied R (rereadOf s) (rereadOf o)
 unfolding rereadOf
-reread-tied {R} h s o loop tables basis levels seen shown extremes switches =
+reread-tied {R} h s o loop tables basis levels seen shown extremes driven switches =
     let e : readingOf (s .table) (s .live .basis) ≡ readingOf (o .table) (o .live .basis) = reading-tied R h tables loop basis in
-    tied tables basis levels seen e shown (rw (extremes, e)) switches
+    tied tables basis levels seen e shown (rw (extremes, e)) driven switches

@@ -1,6 +1,6 @@
 -- TURNTABLES, stated. In a setter's words: with a round loop the digits follow the table across the encoder's end. As long as the table turns by less than half the
 -- encoder's range from one telegram to the next, they know how far it has turned; no reset is refused because the encoder stands high; and where the encoder's range
--- is a multiple of the round loop, every panel shows what it has always shown.
+-- is a multiple of the round loop, every panel shows what it has always shown, unless the old rule refuses a reset by 12.
 -- Paper 02, K4. This file is definitions only; `travelled` of TravelledLaws, `no-twelve` of LoopLaws and `rules-agree` of AgreeLaws prove it, and Cases shows that
 -- the conditions are needed.
 use mathlib.Core.Path.{_≡_}
@@ -112,6 +112,8 @@ pub record Same (a b : Answer) : Type 0 where
   pub switches : a .state .live .switches ≡ b .state .live .switches
   pub outputs : a .outputs ≡ b .outputs
   pub extremes : a .state .live .extremes ≡ b .state .live .extremes
+  -- the record of the drive
+  pub driven : a .state .live .driven ≡ b .state .live .driven
   pub note : a .note ≡ b .note
   pub halves : a .halves ≡ b .halves
 

@@ -6,7 +6,7 @@ use native.Mathlib.Omega.{arith}
 use native.Mathlib.Numerals.{add-one}
 use Rattle.inputs.specs.Commands.{acted, leftBy}
 use Rattle.inputs.specs.Levels.{edgeAt, inputOf, marksAt}
-use Rattle.inputs.specs.CommandLaws.{inputsOf, all-inputs, marksUpTo, all-marks, good-inputs}
+use Rattle.inputs.specs.CommandLaws.{inputsOf, all-inputs, marksUpTo, all-marks, good-inputs, good-commands}
 use Rattle.state.specs.State.{stateOf}
 use Rattle.inputs.proofs.act.Statement.{statement}
 use Rattle.inputs.proofs.act.Tie as tie
@@ -56,7 +56,8 @@ returns c =
     let s = c .before .before in
     let all : l .i ≡ 3 = omega arith in
     let f = stateOf (s .args .t .now) (s .args .l) in
-    ((rw all at (l .inv .1 .0)) ∙ all-inputs f (s .args .levels), (rw all at (l .inv .1 .1)) ∙ all-marks f (s .args .levels))
+    let e = (rw all at (l .inv .1 .0)) ∙ all-inputs f (s .args .levels) in
+    (e, ((rw all at (l .inv .1 .1)) ∙ all-marks f (s .args .levels), rw (← e) at (good-commands f (s .args .levels) (s .pre))))
 
 pub act-spec : {M : Type 1} → statement M
 act-spec =

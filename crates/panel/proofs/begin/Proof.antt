@@ -20,7 +20,7 @@ enum-known-e-3 : tie.Need-enum-known-e-3
 enum-known-e-3 c = search needs
 
 on-tick-requires : tie.Need-on-tick-requires
-on-tick-requires c κs = search needs
+on-tick-requires c κs = let g = c .before .before .before .pre in (g .driven, g .drive)
 
 returns : tie.Need-returns
 unfolding stepOf

@@ -1,0 +1,5 @@
+-- The modules of this crate's definitions and laws, in the order in which to read them.
+pub mod ServiceScreen
+pub mod EventLaws
+pub mod ScreenLaws
+pub mod Cases
