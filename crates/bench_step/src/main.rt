@@ -1,9 +1,10 @@
 // Runs the events of a log through `panel::advance` again and again, for bench/run to time, and prints a sum over all answers.
 // Standard input: an input of panelrun with at most 8,192 words of log. Argument: how often the log is run.
-// Uses `logrun` and `events` to read the input, `panel` for the steps on the values of `state`, `runs` for the words that stand for events, `measurement` and `analog` for error and drive,
+// Uses `logrun` and `events` to read the input, `panel` for the steps on the values of `state`, `runs` for the words that stand for events, `measurement` and `analog` for error and drive, `driverecord` for the record,
 // `decimal` for the argument, and `os`, `io` and `libc` to read and write.
 use analog::Drive;
 use decimal::Parsed;
+use driverecord::DriveRecord;
 use events::Event;
 use events::Taken;
 use libc::STDIN_FILENO;
@@ -13,6 +14,7 @@ use state::Outcome;
 use state::State;
 ghost use Prim.Native.Nat.{_≤_, _*_};
 ghost use lib.ListN.{length};
+ghost use Rattle.driverecord.specs.Numbers.{Numbers};
 ghost use Rattle.state.specs.State.{stateOf};
 ghost use Rattle.state.specs.Valid.{Good};
 
@@ -94,7 +96,23 @@ fn bit(high: bool) -> u64
     0
 }
 
-// What an answer adds to the sum.
+// The record of the drive as a number: the bits of its floats, and its mark.
+fn record_part(d: DriveRecord) -> u64
+    requires { ⌜ Numbers d ⌝ }
+    ensures { λ r. ⌜ r ≤ 244813135900 ⌝ }
+{
+    let floats = wide(f32::to_bits(d.present)) + wide(f32::to_bits(d.lowest)) + wide(f32::to_bits(d.highest));
+    19 * floats + 23 * bit(d.empty)
+}
+
+// A word as a number of 64 bits.
+fn wide(w: u32) -> u64
+    ensures { λ r. ⌜ r ≤ 4294967295 ⌝ }
+{
+    w as u64
+}
+
+// What an answer tells, as a number, beside the record.
 fn part(t: &[i32; 104], o: Outcome) -> u64 {
     let l = o.live;
     let reading = l.reading;
@@ -105,6 +123,15 @@ fn part(t: &[i32; 104], o: Outcome) -> u64 {
     let rest = 7 * outs_part(panel::outputs(t, switches)) + 11 * drive_part(drive);
     let told = 13 * (o.note as u64) + 17 * (o.halves as u64);
     values + rest + 5 * (measurement::error_number(error) as u64) + told
+}
+
+// What an answer adds to the sum.
+fn told(t: &[i32; 104], o: Outcome) -> u64
+    requires { ⌜ Numbers (o .live .driven) ⌝ }
+{
+    let l = o.live;
+    let driven = l.driven;
+    std::num::wrapping_add_u64(part(t, o), record_part(driven))
 }
 
 // The live values and the sum so far.
@@ -123,7 +150,7 @@ fn run_once(t: &mut [i32; 104], x: Summed, words: &[u64]) -> Summed
     let mut i: usize = 0;
     while i < words.len() {
         let o = panel::advance(t, live, runs::event_of(words[i]));
-        sum = std::num::wrapping_add_u64(sum, part(t, o));
+        sum = std::num::wrapping_add_u64(sum, told(t, o));
         live = o.live;
         i += 1;
     }

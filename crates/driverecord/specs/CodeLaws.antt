@@ -1,6 +1,6 @@
 -- The record in whole numbers: brought up to date with the drive of one more code it is the record of the codes with that one (`updated-codes`), since drives compare
 -- as codes do; and an event with a clear ends with both at present, or empty (`cleared-there`). Paper 02, K6. Assumes nothing.
-use mathlib.Core.Path.{_≡_, refl, sym}
+use mathlib.Core.Path.{_≡_, refl, sym, ap, _∙_}
 use mathlib.Core.Bool.{Bool, true, false, cond}
 use mathlib.Core.List.{List, [], _∷_}
 use Prim.Native.Nat.{ℕ, zero, suc}
@@ -45,10 +45,12 @@ on-on (suc k) code = refl
 module _ (format : ℕ) where
   -- the lower of two drives is the drive of the lesser code
   lower-codes : {a b : ℤ} → CodeFits format a → CodeFits format b → lowerOf (floatOf format a) (floatOf format b) ≡ floatOf format (lesser a b)
-  lower-codes {a} {b} h k = rw (drive-order format a b h k) (sym (map-cond (floatOf format) (ltZ a b) a b))
+  lower-codes {a} {b} h k =
+      ap (λ (c : Bool). cond c (floatOf format a) (floatOf format b)) (drive-order format a b h k) ∙ sym (map-cond (floatOf format) (ltZ a b) a b)
 
   higher-codes : {a b : ℤ} → CodeFits format a → CodeFits format b → higherOf (floatOf format a) (floatOf format b) ≡ floatOf format (greater a b)
-  higher-codes {a} {b} h k = rw (drive-order format b a k h) (sym (map-cond (floatOf format) (ltZ b a) a b))
+  higher-codes {a} {b} h k =
+      ap (λ (c : Bool). cond c (floatOf format a) (floatOf format b)) (drive-order format b a k h) ∙ sym (map-cond (floatOf format) (ltZ b a) a b)
 
   widened-codes : (p : Float) (c : ℤ) (cs : List ℤ) → CodeFits format c → Each (CodeFits format) cs →
       widenedBy (recordOf format p cs) (floatOf format c) ≡ recordOf format (floatOf format c) (c ∷ cs)

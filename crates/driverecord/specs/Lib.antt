@@ -3,6 +3,6 @@ pub mod DriveRecord
 pub mod Numbers
 pub mod Least
 pub mod Codes
-pub mod NumberLaws
 pub mod LeastLaws
 pub mod CodeLaws
+pub mod NumberLaws

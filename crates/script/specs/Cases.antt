@@ -7,7 +7,7 @@ use Rattle.decimal.specs.Decimal.{digitsIn, digitsOf, textOf, valueFrom, number
 use Rattle.text.specs.Words.{partsOf, wordsOf, trimmedOf}
 use Rattle.text.specs.Hex.{hexDigit, allHex, isHex, hexFrom, hexLetter, spacedPairs, hexText}
 use Rattle.script.specs.Commands.{naturalIn, naturalBy, naturalOf, signedIn, signedBy, signedOf, slotOf, aloneOf, telegramIn, levelsOf, isFrame, framedOf, namedIn, meaningOf, frameIn, frameOf, commandOf}
-use Rattle.script.specs.declared.Command.the-variants.{Blank, Wrong, Slot, Start, Halves, Telegram, Levels, Frame}
+use Rattle.script.specs.declared.Command.the-variants.{Blank, Wrong, Slot, Start, Halves, Record, Telegram, Levels, Frame}
 
 -- `  t  1aF` and a carriage return
 telegram-line : commandOf (32 ∷ 32 ∷ 116 ∷ 32 ∷ 32 ∷ 49 ∷ 97 ∷ 70 ∷ 13 ∷ []) ≡ Telegram 0x1AF
@@ -54,6 +54,15 @@ halves-line = refl
 halves-more : commandOf (104 ∷ 97 ∷ 108 ∷ 118 ∷ 101 ∷ 115 ∷ 32 ∷ 49 ∷ []) ≡ Wrong 10
 unfolding commandOf trimmedOf wordsOf partsOf meaningOf namedIn sameText aloneOf
 halves-more = refl
+
+-- `record` and a carriage return, and `record 1`
+record-line : commandOf (114 ∷ 101 ∷ 99 ∷ 111 ∷ 114 ∷ 100 ∷ 13 ∷ []) ≡ Record
+unfolding commandOf trimmedOf wordsOf partsOf meaningOf namedIn sameText aloneOf
+record-line = refl
+
+record-more : commandOf (114 ∷ 101 ∷ 99 ∷ 111 ∷ 114 ∷ 100 ∷ 32 ∷ 49 ∷ []) ≡ Wrong 11
+unfolding commandOf trimmedOf wordsOf partsOf meaningOf namedIn sameText aloneOf
+record-more = refl
 
 -- `f` alone is a frame of no bytes, `f 01 fF` one of two; `f 1` is none
 empty-frame : commandOf (102 ∷ []) ≡ Frame

@@ -17,8 +17,8 @@ use Rattle.script.specs.declared.Numeral.the-variants.{Count, Missing}
 use Rattle.script.specs.declared.Integer.{Integer}
 use Rattle.script.specs.declared.Integer.the-variants.{Word, Other}
 use Rattle.script.specs.declared.Command.{Command}
-use Rattle.script.specs.declared.Command.the-variants.{Blank, Wrong, Node, Slot, Start, Halves, Telegram, Levels, Tick, Frame}
-use Rattle.script.specs.Commands.{naturalOf, signedOf, lastNode, lastSlot, tooLong, badStart, badHalves, badTelegram, badFrame, nodeBy, nodeOf, slotBy, slotOf, aloneOf, startOf, halvesOf, telegramIn, levelsBy, levelsOf, tickBy, tickOf, isFrame, framedOf, Entry, table, namedIn, meaningOf, longest, hash, commandOf}
+use Rattle.script.specs.declared.Command.the-variants.{Blank, Wrong, Node, Slot, Start, Halves, Record, Telegram, Levels, Tick, Frame}
+use Rattle.script.specs.Commands.{naturalOf, signedOf, lastNode, lastSlot, tooLong, badStart, badHalves, badRecord, badTelegram, badFrame, nodeBy, nodeOf, slotBy, slotOf, aloneOf, startOf, halvesOf, recordOf, telegramIn, levelsBy, levelsOf, tickBy, tickOf, isFrame, framedOf, Entry, table, namedIn, meaningOf, longest, hash, commandOf}
 use Rattle.script.specs.NumberLaws.{count-most}
 
 -- whether the numbers of a command lie in their ranges
@@ -29,6 +29,7 @@ inRange (Node n) = leb n 65535
 inRange (Slot n z) = ltb n 104
 inRange Start = true
 inRange Halves = true
+inRange Record = true
 inRange (Telegram n) = true
 inRange (Levels n) = true
 inRange (Tick n) = true
@@ -70,6 +71,10 @@ halves-in : (ws : List (List ℕ)) → inRange (halvesOf ws) ≡ true
 unfolding inRange
 halves-in = alone-in Halves badHalves refl
 
+record-in : (ws : List (List ℕ)) → inRange (recordOf ws) ≡ true
+unfolding inRange
+record-in = alone-in Record badRecord refl
+
 telegram-in : (ws : List (List ℕ)) → inRange (telegramIn ws) ≡ true
 unfolding telegramIn inRange
 telegram-in ws = either (isHex 1 8 (onlyOf ws)) (Telegram (hexOf (onlyOf ws))) (Wrong badTelegram) refl refl
@@ -100,7 +105,7 @@ data AllIn : List Entry → Type 0 where
   entry : {e : Entry} {es : List Entry} → ((ws : List (List ℕ)) → inRange (e .1 ws) ≡ true) → AllIn es → AllIn (e ∷ es)
 
 table-in : AllIn table
-table-in = entry node-in (entry slot-in (entry start-in (entry halves-in (entry telegram-in (entry levels-in (entry tick-in (entry framed-in none)))))))
+table-in = entry node-in (entry slot-in (entry start-in (entry halves-in (entry record-in (entry telegram-in (entry levels-in (entry tick-in (entry framed-in none))))))))
 
 named-in : (es : List Entry) → AllIn es → (w : List ℕ) (ws : List (List ℕ)) → inRange (namedIn es w ws) ≡ true
 unfolding namedIn inRange

@@ -18,9 +18,9 @@ use Rattle.text.specs.PlainLaws.{words-back, trimmed-same, text-plain}
 use Rattle.text.specs.Hex.{hexIn, pairWords, allBytes}
 use Rattle.text.specs.HexLaws.{hex-is, spaced-length}
 use Rattle.text.specs.HexBackLaws.{hexin-length, hexin-hex, hexin-word, hexin-back, pair-back, pair-hex, pairs-count, pair-words, pair-text}
-use Rattle.script.specs.Commands.{naturalBy, naturalIn, naturalOf, signedBy, signedOf, nodeOf, slotOf, aloneOf, telegramIn, levelsOf, tickOf, framedOf, mostBytes, isFrame, frameIn, frameOf, namedIn, namedOf, meaningOf, longest, hash, commandOf, nodeWord, slotWord, startWord, halvesWord, telegramWord, levelsWord, tickWord, frameWord}
+use Rattle.script.specs.Commands.{naturalBy, naturalIn, naturalOf, signedBy, signedOf, nodeOf, slotOf, aloneOf, telegramIn, levelsOf, tickOf, framedOf, mostBytes, isFrame, frameIn, frameOf, namedIn, namedOf, meaningOf, longest, hash, commandOf, nodeWord, slotWord, startWord, halvesWord, recordWord, telegramWord, levelsWord, tickWord, frameWord}
 use Rattle.script.specs.NumberLaws.{signed-word}
-use Rattle.script.specs.declared.Command.the-variants.{Node, Slot, Start, Halves, Telegram, Levels, Tick, Frame}
+use Rattle.script.specs.declared.Command.the-variants.{Node, Slot, Start, Halves, Record, Telegram, Levels, Tick, Frame}
 
 -- ---- a line of plain words
 -- it begins as its first word does
@@ -98,6 +98,11 @@ start-back = plain-means startWord [] (last (record { some = omega arith; all = 
 pub halves-back : commandOf (spoken (halvesWord ∷ [])) ≡ Halves
 unfolding namedIn sameText aloneOf allPlain spoken
 halves-back = plain-means halvesWord [] (last (record { some = omega arith; all = refl })) (λ q. omega arith) (omega arith)
+
+-- `record` is read back
+pub record-back : commandOf (spoken (recordWord ∷ [])) ≡ Record
+unfolding namedIn sameText aloneOf allPlain spoken
+record-back = plain-means recordWord [] (last (record { some = omega arith; all = refl })) (λ q. omega arith) (omega arith)
 
 -- ---- frames
 pairs-all : (l : List ℕ) → allBytes l ≡ true → allHexWords 2 2 (pairWords l) ≡ true

@@ -14,7 +14,7 @@ pub fn put_message(out: &mut [u8], at: usize, kind: u8) -> usize
         2 => text::put_bytes(
             out,
             at,
-            b"? no such word; the words are node, slot, start, halves, t, i, c and f\n",
+            b"? no such word; the words are node, slot, start, halves, record, t, i, c and f\n",
         ),
         3 => text::put_bytes(out, at, b"? node takes a number from 0 to 65535\n"),
         4 => text::put_bytes(
@@ -32,6 +32,7 @@ pub fn put_message(out: &mut [u8], at: usize, kind: u8) -> usize
             b"? f takes at most 300 bytes of two hex digits each\n",
         ),
         10 => text::put_bytes(out, at, b"? halves takes nothing\n"),
+        11 => text::put_bytes(out, at, b"? record takes nothing\n"),
         _ => text::put_bytes(out, at, b"? no panel runs yet; start one\n"),
     }
 }

@@ -300,6 +300,18 @@ fn asked(s: Sheet, q: Question, line: &[u8], out: &mut [u8]) -> usize
     }
 }
 
+// A line that a sheet has no use for: it is told, and changes nothing.
+fn unknown(s: Sheet, out: &mut [u8]) -> Said
+    requires { ⌜ longest ≤ length (now out) ⌝ }
+    ensures is { λ r. ⌜ r .sheet ≡ s ⌝ }
+    ensures text { λ r. ⌜ Put (now (out .entry)) 0 wrongLine (r .end) (now (out .exit)) ⌝ }
+{
+    Said {
+        sheet: s,
+        end: wrong(out),
+    }
+}
+
 // `cut` and a number.
 fn cut(s: Sheet, line: &[u8], out: &mut [u8]) -> Said
     requires { ⌜ longest ≤ length (now out) ⌝ }
@@ -364,22 +376,11 @@ fn plain(s: Sheet, line: &[u8], out: &mut [u8]) -> Said
         Command::Telegram(w) => event(s, Event::Telegram(w), out),
         Command::Levels(x) => event(s, Event::Levels(x), out),
         Command::Tick(ms) => event(s, Event::Tick(ms), out),
-        Command::Wrong(_) => Said {
-            sheet: s,
-            end: wrong(out),
-        },
-        Command::Node(_) => Said {
-            sheet: s,
-            end: wrong(out),
-        },
-        Command::Halves => Said {
-            sheet: s,
-            end: wrong(out),
-        },
-        Command::Frame => Said {
-            sheet: s,
-            end: wrong(out),
-        },
+        Command::Wrong(_) => unknown(s, out),
+        Command::Node(_) => unknown(s, out),
+        Command::Halves => unknown(s, out),
+        Command::Record => unknown(s, out),
+        Command::Frame => unknown(s, out),
     }
 }
 

@@ -1,12 +1,12 @@
-// Hex digits: read in either case, and bytes written as two upper-case digits each.
+// Hex digits: read in either case. Bytes are written as two upper-case digits each, words of 32 bits as eight.
 use crate::words;
 ghost use mathlib.Core.Path.{_≡_};
 ghost use mathlib.Core.Bool.{true};
 ghost use mathlib.Core.List.{_∷_};
-ghost use Prim.Native.Nat.{_+_, _*_, _≤_, _<_};
+ghost use Prim.Native.Nat.{_+_, _*_, _%_, _≤_, _<_};
 ghost use lib.ListN.{length};
 ghost use Rattle.text.specs.Marks.{space};
-ghost use Rattle.text.specs.Hex.{hexDigit, allHex, isHex, hexOf, hexLetter, hexPair, spacedPairs, hexText};
+ghost use Rattle.text.specs.Hex.{hexDigit, allHex, isHex, hexOf, hexLetter, hexPair, spacedPairs, hexText, hexIn};
 ghost use Rattle.text.specs.HexList.{areHex};
 ghost use Rattle.text.specs.Words.{wordsOf};
 ghost use Rattle.text.specs.Put.{Put};
@@ -156,4 +156,29 @@ pub fn put(out: &mut [u8], at: usize, bytes: &[u8]) -> usize
     }
     let p = put_pair(out, at, bytes[0]);
     put_rest(out, p, &bytes[1..])
+}
+
+// The last digit of a number.
+fn last(n: u32) -> u8
+    ensures { λ r. ⌜ r ≡ hexLetter (n % 16) ⌝ }
+{
+    letter((n % 16) as u8)
+}
+
+// Puts a number as eight digits.
+pub fn put_eight(out: &mut [u8], at: usize, n: u32) -> usize
+    requires { ⌜ at + 8 ≤ length (now out) ⌝ }
+    ensures { λ r. ⌜ Put (now (out .entry)) at (hexIn 8 n) r (now (out .exit)) ⌝ }
+{
+    let digits = [
+        last(n / 0x10000000),
+        last(n / 0x1000000),
+        last(n / 0x100000),
+        last(n / 0x10000),
+        last(n / 0x1000),
+        last(n / 0x100),
+        last(n / 0x10),
+        last(n),
+    ];
+    crate::put_bytes(out, at, &digits)
 }

@@ -1,4 +1,4 @@
-//! Analog value: code and drive. Paper: "Analog value".
+//! Analog value: code and drive. Paper: "Analog value"; K6: the drive as an exact fraction.
 
 use crate::fraction::{Fraction, Rounded};
 use crate::table::{AnalogFormat, Table};
@@ -32,6 +32,16 @@ pub fn drive(format: AnalogFormat, code: i32) -> Drive {
         AnalogFormat::Volts => Drive::Volts(code * 10.0 / 32_768.0),
         AnalogFormat::MilliampsFrom0 => Drive::Milliamps(code * 20.0 / 65_536.0),
         AnalogFormat::MilliampsFrom4 => Drive::Milliamps(code * 16.0 / 65_536.0 + 4.0),
+    }
+}
+
+/// K6: the drive of a code as a fraction, in the unit of the format.
+pub fn exact(format: AnalogFormat, code: i64) -> Fraction {
+    let code = i128::from(code);
+    match format {
+        AnalogFormat::Volts => Fraction::new(code * 10, 32_768),
+        AnalogFormat::MilliampsFrom0 => Fraction::new(code * 20, 65_536),
+        AnalogFormat::MilliampsFrom4 => Fraction::new(code * 16, 65_536).plus(Fraction::whole(4)),
     }
 }
 

@@ -4,7 +4,7 @@ use std::hint::black_box;
 use std::ops::Range;
 
 use crate::analog::Drive;
-use crate::fast::Panel;
+use crate::fast::{Panel, Record};
 use crate::log;
 use crate::panel::{Answer, Event, Halves};
 use crate::panelrun::{self, TABLE_BYTES};
@@ -31,7 +31,8 @@ const RING: usize = 4_096;
 pub const KINDS: [&str; 8] =
     ["telegrams", "levels", "ticks", "mixed", "far_end", "middle", "near_end", "round_loop"];
 
-/// Runs the events of an input through the 64-bit panel again and again; a sum over all answers.
+/// Runs the events of an input through the 64-bit panel again and again; a sum over all answers
+/// and the records after them.
 pub fn sum(input: &[u8], rounds: u64) -> u64 {
     let table = panelrun::load(&input[..TABLE_BYTES]).unwrap();
     let events = log::read(&input[TABLE_BYTES..]).events;
@@ -47,7 +48,8 @@ pub fn sum(input: &[u8], rounds: u64) -> u64 {
 #[inline]
 fn run_once(panel: &mut Panel, events: &[Event], mut sum: u64) -> u64 {
     for event in events {
-        sum = sum.wrapping_add(part(&panel.step(black_box(*event))));
+        let answer = panel.step(black_box(*event));
+        sum = sum.wrapping_add(part(&answer)).wrapping_add(record_part(&panel.record));
     }
     sum
 }
@@ -67,6 +69,13 @@ fn part(answer: &Answer) -> u64 {
 /// K7: the three marks as one number.
 fn halves_part(halves: &Halves) -> u64 {
     u64::from(halves.scaling) + 2 * u64::from(halves.linearization) + 4 * u64::from(halves.analog)
+}
+
+/// K6: what the record after an event adds to the sum.
+fn record_part(record: &Record) -> u64 {
+    let floats = [record.present, record.lowest, record.highest];
+    let bits: u64 = floats.iter().map(|float| u64::from(float.to_bits())).sum();
+    19 * bits + 23 * u64::from(record.empty)
 }
 
 fn raised(number: i64) -> u64 {

@@ -27,6 +27,11 @@ impl Fraction {
         Fraction { upper: number.into(), lower: 1 }
     }
 
+    /// Upper and lower.
+    pub fn pair(self) -> (i128, i128) {
+        (self.upper, self.lower)
+    }
+
     pub fn plus(self, other: Fraction) -> Fraction {
         Fraction {
             upper: self.upper * other.lower + other.upper * self.lower,
@@ -65,9 +70,17 @@ impl PartialEq for Fraction {
     }
 }
 
+impl Eq for Fraction {}
+
 impl PartialOrd for Fraction {
     fn partial_cmp(&self, other: &Fraction) -> Option<Ordering> {
-        (self.upper * other.lower).partial_cmp(&(other.upper * self.lower))
+        Some(self.cmp(other))
+    }
+}
+
+impl Ord for Fraction {
+    fn cmp(&self, other: &Fraction) -> Ordering {
+        (self.upper * other.lower).cmp(&(other.upper * self.lower))
     }
 }
 

@@ -33,9 +33,8 @@ pub fn recording(seed: u64, count: u64) -> Recording {
 fn purpose(index: u64, count: u64, met: &Tally) -> String {
     let mut names = tally::names();
     let last = names.pop().unwrap();
-    let before_a_start = |name: &&String| name.contains("no panel runs yet");
     let chosen = match index {
-        0 => names.iter().find(before_a_start).unwrap(),
+        0 => names.iter().find(|name| before_a_start(name)).unwrap(),
         _ if index + 1 == count => &last,
         _ => names
             .iter()
@@ -44,6 +43,17 @@ fn purpose(index: u64, count: u64, met: &Tally) -> String {
             .unwrap(),
     };
     chosen.clone()
+}
+
+/// Met at the head of a text alone.
+fn before_a_start(name: &str) -> bool {
+    name.contains("no panel runs yet")
+}
+
+/// Whether a session meets its purpose; the first meets all that comes before a start.
+fn meets(seen: &Tally, index: u64, purpose: &str) -> bool {
+    let mut heads = tally::names().into_iter().filter(|name| before_a_start(name));
+    seen.of(purpose) > 0 && (index > 0 || heads.all(|name| seen.of(&name) > 0))
 }
 
 /// Text and output of the first try that meets its purpose; the console after it.
@@ -68,7 +78,7 @@ fn session(
         let text = writer.text;
         let mut after = console.clone();
         let (output, seen) = tally::observe_from(&mut after, &text);
-        if seen.of(purpose) > 0 && text.len() <= longest(purpose) && shows(&text) {
+        if meets(&seen, index, purpose) && text.len() <= longest(purpose) && shows(&text) {
             *console = after;
             return (text, output, seen);
         }

@@ -5,6 +5,8 @@ use std::fmt;
 
 use crate::console::{self, Command, Console, Said, Wrong, LINE};
 use crate::differ::Counts;
+use crate::drives::{self, Mistake, Others};
+use crate::fraction::Fraction;
 use crate::measure;
 use crate::modbus::{Addressee, Answered, Exception, Fault, Outcome, Place, Slave};
 use crate::panel::{self, Event, Halves};
@@ -29,6 +31,9 @@ pub fn names() -> Vec<String> {
     names.extend(EXCEPTIONS.map(String::from));
     names.extend(HALVES.map(String::from));
     names.extend(ROUND_LOOPS.map(String::from));
+    names.extend(RECORDS.map(String::from));
+    let told = drives::ALL.into_iter().filter(|&mistake| mistake != Mistake::TickLeftOut);
+    names.extend(told.map(Mistake::name));
     names.extend(Wrong::ALL.map(|wrong| format!("line answered: {}", wrong.words())));
     names.extend(LINES.map(String::from));
     names
@@ -106,6 +111,33 @@ const ROUND_LOOPS: [&str; 9] = [
     "round loop: another count than without the write before",
 ];
 
+/// K6: what is asked of the record, and what led to it.
+const RECORDS: [&str; 23] = [
+    "record where no panel runs yet",
+    "record before the first event",
+    "record empty",
+    "record with lowest < present < highest",
+    "record of a range in format 0",
+    "record of a range in format 1",
+    "record of a range in format 2",
+    "record on both sides of 0 V",
+    "record off, lowest and highest kept",
+    "record off in format 2, lowest and highest kept",
+    "record widened by a reset",
+    "record cleared to the present drive",
+    "record cleared under an error",
+    "record cleared before the first telegram",
+    "record cleared beside a refused command",
+    "record of clear, then reset, in one event",
+    "record of reset, then clear, in one event",
+    "record kept over a tick",
+    "record kept over a refused event",
+    "record kept over a frame",
+    "record kept over a refused start",
+    "record emptied by a write",
+    "record emptied by a start",
+];
+
 const LINES: [&str; 7] = [
     "line: blank",
     "line: remark",
@@ -146,6 +178,10 @@ struct Run {
     place: Option<i64>,
     /// K4: the offset is the count of a reset after a crossing.
     stored: bool,
+    /// K6: what the last event, frame or start did to the record.
+    led: Vec<&'static str>,
+    /// K6: the record by mistaken rules.
+    others: Option<Others>,
 }
 
 impl Tally {
@@ -184,9 +220,10 @@ impl Tally {
                 self.see_frame(run, line, before, answered, after);
             }
             Said::Wrong(wrong) => self.count(format!("line answered: {}", wrong.words())),
-            Said::Halves(_) | Said::Nothing => {}
+            Said::Halves(_) | Said::Record(_) | Said::Nothing => {}
         }
         self.see_marks(run, line, before, said, after);
+        self.see_record(run, line, before, said, after);
     }
 
     /// K7: what the marks are where they are asked for, and what led to them.
@@ -215,8 +252,58 @@ impl Tally {
             Said::Event(..) | Said::Frame(_) | Said::Start(_) => {
                 run.fate = fate(before, said, after);
             }
-            Said::Nothing => {}
+            Said::Record(_) | Said::Nothing => {}
         }
+    }
+
+    /// K6: what the record is where it is asked for, what led to it, and which mistakes it tells.
+    fn see_record(
+        &mut self,
+        run: &mut Run,
+        line: &[u8],
+        before: &Console,
+        said: &Said,
+        after: &Console,
+    ) {
+        match said {
+            Said::Record(record) => {
+                self.count_if(before.events == 0, "record before the first event");
+                self.count_if(record.empty, "record empty");
+                before.panel.iter().for_each(|panel| self.see_drives(panel));
+                run.led.iter().for_each(|&led| self.count(led));
+                for mistake in run.others.iter().flat_map(|others| others.told(record)) {
+                    self.count(mistake.name());
+                }
+            }
+            Said::Wrong(wrong) => {
+                let asked = console::command(line) == Ok(Command::Record);
+                self.count_if(asked && *wrong == Wrong::NoPanel, "record where no panel runs yet");
+            }
+            Said::Event(..) | Said::Frame(_) | Said::Start(_) => {
+                run.led = led(before, said, after);
+                run.others = others(run.others.take(), before, said, after);
+            }
+            Said::Halves(_) | Said::Nothing => {}
+        }
+    }
+
+    /// K6: how present, lowest and highest lie.
+    fn see_drives(&mut self, panel: &Slave) {
+        let (Some(driven), now) = (panel.state.driven, panel::drive(&panel.table, &panel.state))
+        else {
+            return;
+        };
+        let format = panel.table.analog as usize;
+        let between = now.is_some_and(|now| driven.lowest < now && now < driven.highest);
+        self.count_if(between, "record with lowest < present < highest");
+        let ranges = driven.lowest < driven.highest;
+        self.count_if(ranges, &format!("record of a range in format {format}"));
+        let zero = Fraction::whole(0);
+        let both = driven.lowest < zero && zero < driven.highest;
+        self.count_if(both, "record on both sides of 0 V");
+        let off = now.is_none();
+        self.count_if(off, "record off, lowest and highest kept");
+        self.count_if(off && format == 2, "record off in format 2, lowest and highest kept");
     }
 
     fn see_line(&mut self, line: &[u8], said: &Said) {
@@ -456,6 +543,78 @@ fn fate(before: &Console, said: &Said, after: &Console) -> Option<&'static str> 
         Said::Start(_) => Some("halves gone by a start"),
         _ => None,
     }
+}
+
+/// K6: what an event, a frame or a start did to the record, where it was not empty; a clear anyway.
+fn led(before: &Console, said: &Said, after: &Console) -> Vec<&'static str> {
+    let (Some(old), Some(new)) = (&before.panel, &after.panel) else {
+        return Vec::new();
+    };
+    let some = |met: bool, name| if met { vec![name] } else { Vec::new() };
+    let had = old.state.driven.is_some();
+    match said {
+        Said::Event(_, event, answer) => match *event {
+            _ if matches!(answer.note, 10 | 11) => some(had, "record kept over a refused event"),
+            Event::Telegram(_) => Vec::new(),
+            Event::Levels(levels) => led_by_levels(old, levels, answer.note, new),
+            Event::Tick(_) => some(had, "record kept over a tick"),
+        },
+        Said::Frame(answered) => match answered.outcome {
+            Outcome::Written(..) => some(had, "record emptied by a write"),
+            _ => some(had, "record kept over a frame"),
+        },
+        Said::Start(None) => some(had, "record emptied by a start"),
+        Said::Start(_) => some(had, "record kept over a refused start"),
+        _ => Vec::new(),
+    }
+}
+
+/// K6: what accepted levels did to the record.
+fn led_by_levels(old: &Slave, levels: u8, note: u8, new: &Slave) -> Vec<&'static str> {
+    let asked = panel::asked(&old.table, old.state.levels, levels);
+    let first = |wanted| asked.iter().position(|&action| action == wanted);
+    let last = |wanted| asked.iter().rposition(|&action| action == wanted);
+    let [was, is] = [old, new].map(|panel| panel::drive(&panel.table, &panel.state));
+    let moved = was != is;
+    let changed = old.state.driven != new.state.driven;
+    let Some(cleared) = first(Action::ClearExtremes) else {
+        return if changed { vec!["record widened by a reset"] } else { Vec::new() };
+    };
+    let behind = last(Action::Reset) > Some(cleared);
+    let ahead = first(Action::Reset).is_some_and(|reset| Some(reset) < last(Action::ClearExtremes));
+    let names = [
+        (changed && is.is_some(), "record cleared to the present drive"),
+        (changed && is.is_none(), "record cleared under an error"),
+        (old.state.telegram.is_none(), "record cleared before the first telegram"),
+        (changed && note != 0, "record cleared beside a refused command"),
+        (moved && behind, "record of clear, then reset, in one event"),
+        (moved && ahead, "record of reset, then clear, in one event"),
+    ];
+    names.into_iter().filter(|(met, _)| *met).map(|(_, name)| name).collect()
+}
+
+/// K6: the record by mistaken rules after an event, a frame or a start; where none are known yet, from
+/// the running panel on.
+fn others(known: Option<Others>, before: &Console, said: &Said, after: &Console) -> Option<Others> {
+    let (old, new) = (before.panel.as_ref(), after.panel.as_ref()?);
+    let known = known.or(old.map(|panel| Others::new(&panel.table, &panel.state)));
+    let fresh = Others::new(&new.table, &new.state);
+    let (Some(mut others), Some(old)) = (known, old) else {
+        return Some(fresh);
+    };
+    match said {
+        Said::Start(None) => return Some(fresh),
+        Said::Event(_, event, answer) => {
+            others.see(&old.table, &old.state, *event, &new.state, answer.note);
+        }
+        Said::Frame(answered) => {
+            if let Outcome::Written(..) = answered.outcome {
+                others.write();
+            }
+        }
+        _ => {}
+    }
+    Some(others)
 }
 
 /// Whether levels ask a running panel for a reset.

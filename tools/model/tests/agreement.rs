@@ -1,11 +1,13 @@
 //! The 64-bit panel against the exact reference, and the generator against its purposes.
 
+use model::analog::Drive;
+use model::bench;
 use model::coverage::{observe, Coverage};
 use model::differ::Counts;
-use model::fast::Panel;
+use model::fast::{self, Panel};
 use model::generate::{self, theme};
 use model::log;
-use model::panel;
+use model::panel::{self, Halves};
 use model::panelrun::{self, TABLE_BYTES};
 use model::{print, record};
 
@@ -35,8 +37,67 @@ fn answers_and_extremes_are_the_same() {
             assert_eq!(fast.step(event), answer, "case {index}");
             assert_eq!(fast.extremes, after.extremes, "case {index}");
             assert_eq!(fast.offset(), after.offset, "case {index}");
+            assert_eq!(bits(&fast.record), panel::record(&table, &after), "case {index}");
             state = after;
         }
+    }
+}
+
+/// K6: a record by the bits of its floats.
+fn bits(record: &fast::Record) -> panel::Record {
+    let fast::Record { present, lowest, highest, empty } = *record;
+    let [present, lowest, highest] = [present, lowest, highest].map(f32::to_bits);
+    panel::Record { present, lowest, highest, empty }
+}
+
+/// The sum of the reference over the events of an input, some rounds of them.
+fn reference_sum(input: &[u8], rounds: u64) -> u64 {
+    let table = panelrun::load(input).unwrap();
+    let events = log::read(&input[TABLE_BYTES..]).events;
+    let mut state = panel::fresh(&table);
+    let mut sum = 0u64;
+    for &event in (0..rounds).flat_map(|_| &events) {
+        let (after, answer) = panel::step(&table, &state, event);
+        let record = panel::record(&table, &after);
+        let drive = match answer.drive {
+            Drive::Off => 1,
+            Drive::Volts(volts) => 2 + u64::from(volts > 5.0),
+            Drive::Milliamps(milliamps) => 4 + u64::from(milliamps > 12.0),
+        };
+        let Halves { scaling, linearization, analog } = answer.halves;
+        let number = |marks: &[bool]| {
+            marks.iter().rev().fold(0, |number, &mark| 2 * number + u64::from(mark))
+        };
+        let parts = [
+            (1, (answer.result + (1 << 31)) as u64),
+            (3, (answer.shown + (1 << 31)) as u64),
+            (5, answer.error.into()),
+            (7, number(&answer.outputs)),
+            (11, drive),
+            (13, answer.note.into()),
+            (17, number(&[scaling, linearization, analog])),
+            (19, record.present.into()),
+            (19, record.lowest.into()),
+            (19, record.highest.into()),
+            (23, record.empty.into()),
+        ];
+        sum = parts.iter().fold(sum, |sum, (times, part)| sum.wrapping_add(times * part));
+        state = after;
+    }
+    sum
+}
+
+#[test]
+fn timed_sums_are_the_same() {
+    for kind in bench::KINDS {
+        let input = bench::input(kind, 400);
+        assert_eq!(bench::sum(&input, 3), reference_sum(&input, 3), "{kind}");
+    }
+    // With errors and clears under them, and the records they leave empty.
+    for index in (0..CASES).filter(|&index| panelrun::load(&generate::case(6, index).input).is_ok())
+    {
+        let input = generate::case(6, index).input;
+        assert_eq!(bench::sum(&input, 2), reference_sum(&input, 2), "case {index}");
     }
 }
 

@@ -1,5 +1,5 @@
 //! console's lines, by request K2: words, numbers, messages and what a start and a write leave.
-//! K7: the marks that it prints.
+//! K7: the marks that it prints; K6: the record.
 
 use model::console::{self, Wrong};
 
@@ -52,14 +52,23 @@ fn lines_that_are_none() {
     assert_kind(9, &["f 1", "f 123", "f 0103", "f 01 g3", "f 01 +3", "f 01,03"]);
     assert_kind(2, &["Halves", "halve", "halves\t", "halves\r\r", "halves1", " #halves"]);
     assert_kind(11, &["halves 1", "halves 0 0 0", "  halves  halves \r", "halves #", "halves \t"]);
+    assert_kind(2, &["Record", "recor", "records", "record\t", "record\r\r", " #record"]);
+    assert_kind(12, &["record 1", "record empty", "  record  record \r", "record #", "record \t"]);
 }
 
 #[test]
 fn messages_of_halves() {
-    let words = "? no such word; the words are node, slot, start, halves, t, i, c and f\n";
+    let words = "? no such word; the words are node, slot, start, halves, record, t, i, c and f\n";
     assert_eq!(said(b"x"), words);
     assert_eq!(said(b"halves 1"), "? halves takes nothing\n");
     assert_eq!(run("halves\n"), "? no panel runs yet; start one\n");
+}
+
+#[test]
+fn messages_of_record() {
+    assert_eq!(said(b"record 1"), "? record takes nothing\n");
+    assert_eq!(said(b"  record \r"), "record 00000000 empty\n");
+    assert_eq!(run("record\n"), "? no panel runs yet; start one\n");
 }
 
 #[test]
@@ -111,6 +120,8 @@ fn before_the_first_start() {
     assert_eq!(run("node 0\nstart\nt 5\n"), format!("start 33 0\n{none}"));
     let asked = "halves\nhalves 1\nnode 0\nstart\nhalves\n";
     assert_eq!(run(asked), format!("{none}{}start 33 0\n{none}", message(11)));
+    let asked = "record\nrecord 1\nnode 0\nstart\nrecord\n";
+    assert_eq!(run(asked), format!("{none}{}start 33 0\n{none}", message(12)));
 }
 
 #[test]
@@ -326,6 +337,121 @@ start 0 0
 halves 0 0 0
 ";
     assert_eq!(run(&format!("{BY_3_HALVES}{text}")), expected);
+}
+
+/// Clear on input 1, error bit 25 above 24 bits.
+const CLEARING: &str = "slot 2 1\nslot 3 24\nslot 8 25\nslot 49 4\nstart\n";
+
+#[test]
+fn record_of_the_drive() {
+    // 5,000 is 5 V, 0 is 0 V, 2,500 is 8,191.75, 8,192, 2.5 V. 1000000 is the error bit.
+    let text = "\
+record
+t 1388
+record
+t 0
+t 9C4
+record
+record 1
+  record \r
+c 5
+i 8
+t 2000000
+record
+t 1000000
+record
+i 1
+record
+t 1388
+record
+";
+    let expected = format!(
+        "\
+start 0 0
+record 00000000 empty
+1 T 5000 5000 0 1111 16384 0
+record 40A00000 40A00000 40A00000
+2 T 0 0 0 0000 0 0
+3 T 2500 2500 0 1100 8192 0
+record 40200000 00000000 40A00000
+{}record 40200000 00000000 40A00000
+4 C 2500 2500 0 1100 8192 0
+5 I 2500 2500 0 1100 8192 10
+6 T 2500 2500 0 1100 8192 11
+record 40200000 00000000 40A00000
+7 T 0 0 3 0000 off 0
+record 00000000 00000000 40A00000
+8 I 0 0 3 0000 off 0
+record 00000000 empty
+9 T 5000 5000 0 1111 16384 0
+record 40A00000 40A00000 40A00000
+",
+        message(12)
+    );
+    assert_eq!(run(&format!("{CLEARING}{text}")), expected);
+}
+
+#[test]
+fn record_over_frames_and_writes() {
+    // No bytes, another node, a read, a refused write; a write of slot 12, and one to all. 1 and 2 are
+    // the codes 3 and 7: 30 ÷ 2^15 is 1.875 × 2^−11, 70 ÷ 2^15 is 1.09375 × 2^−9.
+    let text = "\
+t 1388
+f
+record
+f 07 03 00 22 00 02 64 67
+record
+f 01 03 00 00 00 02 C4 0B
+record
+f 01 10 00 00 00 02 04 00 00 00 00 F3 AF
+record
+f 01 10 00 18 00 02 04 00 01 00 00 A2 C5
+record
+t 0
+record
+f 00 10 00 18 00 02 04 00 02 00 00 56 39
+record
+t 0
+record
+";
+    let expected = "\
+start 0 0
+1 T 5000 5000 0 1111 16384 0
+frame 20 -
+record 40A00000 40A00000 40A00000
+frame 0 -
+record 40A00000 40A00000 40A00000
+frame 0 01 03 04 00 19 00 00 2B F4
+record 40A00000 40A00000 40A00000
+frame 0 01 90 03 0C 01
+record 40A00000 40A00000 40A00000
+frame 0 01 10 00 18 00 02 C1 CF
+record 00000000 empty
+1 T 1 1 0 0000 3 0
+record 3A700000 3A700000 3A700000
+frame 0 -
+record 00000000 empty
+1 T 2 2 0 0000 7 0
+record 3B0C0000 3B0C0000 3B0C0000
+";
+    assert_eq!(run(&format!("{CLEARING}{text}")), expected);
+}
+
+#[test]
+fn record_over_starts() {
+    let text =
+        "t 1388\nnode 0\nstart\nrecord\nnode 1\nslot 0 9\nstart\nrecord\nslot 0 25\nstart\nrecord\n";
+    let expected = "\
+start 0 0
+1 T 5000 5000 0 1111 16384 0
+start 33 0
+record 40A00000 40A00000 40A00000
+start 2 0
+record 40A00000 40A00000 40A00000
+start 0 0
+record 00000000 empty
+";
+    assert_eq!(run(&format!("{CLEARING}{text}")), expected);
 }
 
 #[test]

@@ -1,6 +1,7 @@
 //! Random texts of console: what they meet, and that they are the same from the same seed.
 
 use model::differ::{console_case, Counts};
+use model::drives::Mistake;
 use model::generate::sessions;
 use model::tally::{self, Tally};
 
@@ -11,6 +12,14 @@ fn sessions_meet_every_name() {
     let mut met = Tally::default();
     (0..800).for_each(|index| met.add(&console_case(SEED, index).met));
     assert_eq!(met.missing(), Vec::<String>::new());
+}
+
+#[test]
+fn ticks_bring_the_record_nothing_new() {
+    let mut met = Tally::default();
+    (0..400).for_each(|index| met.add(&console_case(SEED, index).met));
+    assert!(met.of("record kept over a tick") > 200);
+    assert_eq!(met.of(&Mistake::TickLeftOut.name()), 0);
 }
 
 #[test]

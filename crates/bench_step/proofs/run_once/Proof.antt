@@ -28,8 +28,8 @@ event-of-requires c κs = search needs
 advance-requires : tie.Need-advance-requires Inv-loop μ-loop
 advance-requires c κs = search needs
 
-part-requires : tie.Need-part-requires Inv-loop μ-loop
-part-requires c κs = search needs
+told-requires : tie.Need-told-requires Inv-loop μ-loop
+told-requires c κs = search needs
 
 wrapping-add-u64-requires : tie.Need-wrapping-add-u64-requires Inv-loop μ-loop
 wrapping-add-u64-requires c κs = search needs
@@ -57,7 +57,7 @@ run-once-spec =
     shared-slice-read-event-of
     event-of-requires
     advance-requires
-    part-requires
+    told-requires
     wrapping-add-u64-requires
     add-i
     loop-less

@@ -50,26 +50,32 @@ event-requires-3 c κs = search needs
 enum-told-3 : tie.Need-enum-told-3
 enum-told-3 c = search needs
 
-wrong-requires : tie.Need-wrong-requires
-wrong-requires c κs = search needs
+unknown-requires : tie.Need-unknown-requires
+unknown-requires c κs = search needs
 
 enum-told-4 : tie.Need-enum-told-4
 enum-told-4 c = search needs
 
-wrong-requires-2 : tie.Need-wrong-requires-2
-wrong-requires-2 c κs = search needs
+unknown-requires-2 : tie.Need-unknown-requires-2
+unknown-requires-2 c κs = search needs
 
 enum-told-5 : tie.Need-enum-told-5
 enum-told-5 c = search needs
 
-wrong-requires-3 : tie.Need-wrong-requires-3
-wrong-requires-3 c κs = search needs
+unknown-requires-3 : tie.Need-unknown-requires-3
+unknown-requires-3 c κs = search needs
 
 enum-told-6 : tie.Need-enum-told-6
 enum-told-6 c = search needs
 
-wrong-requires-4 : tie.Need-wrong-requires-4
-wrong-requires-4 c κs = search needs
+unknown-requires-4 : tie.Need-unknown-requires-4
+unknown-requires-4 c κs = search needs
+
+enum-told-7 : tie.Need-enum-told-7
+enum-told-7 c = search needs
+
+unknown-requires-5 : tie.Need-unknown-requires-5
+unknown-requires-5 c κs = search needs
 
 returns : tie.Need-returns
 unfolding afterPlain plainText
@@ -134,7 +140,7 @@ unfolding afterPlain plainText
 returns-7 c =
     let x = c .before .before in
     let told = rw (x .before .before .before .before .read .ensures) at (x .before .before .enum-told3 .given .1) in
-    (rw told, rw told (x .wrong .ensures))
+    (rw told (x .unknown .ensures .0), rw told (x .unknown .ensures .1))
 
 same-length-6 : tie.Need-same-length-6
 same-length-6 c = search needs
@@ -144,7 +150,7 @@ unfolding afterPlain plainText
 returns-8 c =
     let x = c .before .before in
     let told = rw (x .before .before .before .before .read .ensures) at (x .before .before .enum-told4 .given .1) in
-    (rw told, rw told (x .wrong2 .ensures))
+    (rw told (x .unknown2 .ensures .0), rw told (x .unknown2 .ensures .1))
 
 same-length-7 : tie.Need-same-length-7
 same-length-7 c = search needs
@@ -154,7 +160,7 @@ unfolding afterPlain plainText
 returns-9 c =
     let x = c .before .before in
     let told = rw (x .before .before .before .before .read .ensures) at (x .before .before .enum-told5 .given .1) in
-    (rw told, rw told (x .wrong3 .ensures))
+    (rw told (x .unknown3 .ensures .0), rw told (x .unknown3 .ensures .1))
 
 same-length-8 : tie.Need-same-length-8
 same-length-8 c = search needs
@@ -164,7 +170,17 @@ unfolding afterPlain plainText
 returns-10 c =
     let x = c .before .before in
     let told = rw (x .before .before .before .before .read .ensures) at (x .before .before .enum-told6 .given .1) in
-    (rw told, rw told (x .wrong4 .ensures))
+    (rw told (x .unknown4 .ensures .0), rw told (x .unknown4 .ensures .1))
+
+same-length-9 : tie.Need-same-length-9
+same-length-9 c = search needs
+
+returns-11 : tie.Need-returns-11
+unfolding afterPlain plainText
+returns-11 c =
+    let x = c .before .before in
+    let told = rw (x .before .before .before .before .read .ensures) at (x .before .before .enum-told7 .given .1) in
+    (rw told (x .unknown5 .ensures .0), rw told (x .unknown5 .ensures .1))
 
 pub plain-spec : {M : Type 1} → statement M
 plain-spec =
@@ -184,13 +200,15 @@ plain-spec =
     enum-known-command-4
     event-requires-3
     enum-told-3
-    wrong-requires
+    unknown-requires
     enum-told-4
-    wrong-requires-2
+    unknown-requires-2
     enum-told-5
-    wrong-requires-3
+    unknown-requires-3
     enum-told-6
-    wrong-requires-4
+    unknown-requires-4
+    enum-told-7
+    unknown-requires-5
     returns
     returns-2
     same-length
@@ -208,4 +226,6 @@ plain-spec =
     same-length-7
     returns-9
     same-length-8
-    returns-10)
+    returns-10
+    same-length-9
+    returns-11)

@@ -5,7 +5,7 @@ use crate::panel::Event;
 use crate::rng::Rng;
 
 /// Lines that are none whatever runs.
-const WRONG: [&str; 69] = [
+const WRONG: [&str; 75] = [
     "x",
     "Start",
     "START",
@@ -58,6 +58,12 @@ const WRONG: [&str; 69] = [
     "halves 1",
     "halves halves",
     "halves\t",
+    "Record",
+    "recor",
+    "records",
+    "record 1",
+    "record record",
+    "record\t",
     "t",
     "t 123456789",
     "t 0x1",
@@ -126,9 +132,9 @@ pub fn frame(rng: &mut Rng, bytes: &[u8]) -> Vec<String> {
         .collect()
 }
 
-/// The words that ask for the marks, now and then with something behind them.
-pub fn halves(rng: &mut Rng) -> Vec<String> {
-    let mut words = vec!["halves".into()];
+/// The words that ask for the marks or the record, now and then with something behind them.
+pub fn question(rng: &mut Rng, word: &str) -> Vec<String> {
+    let mut words = vec![word.into()];
     if rng.chance(4) {
         words.push(rng.pick(&["0", "1", "0 0 0", "-", "t", "#"]).into());
     }
@@ -158,6 +164,7 @@ fn torn(rng: &mut Rng) -> Vec<u8> {
         "f 01 03 00 00 00 02 C4 0B",
         "start",
         "halves",
+        "record",
     ];
     let mut line: Vec<u8> = rng.pick(&good).into();
     let at = rng.below(line.len() as u64) as usize;
@@ -174,8 +181,9 @@ fn torn(rng: &mut Rng) -> Vec<u8> {
 
 /// A line of about 1,024 bytes, or far more: good, blank, a remark or none, with 0 to 2 carriage returns.
 fn around_the_longest(rng: &mut Rng) -> Vec<u8> {
-    let mut line: Vec<u8> =
-        rng.pick(&["c 5", "i 1", "", "#", "x", "f", "node 1", "start 1", "halves"]).into();
+    let mut line: Vec<u8> = rng
+        .pick(&["c 5", "i 1", "", "#", "x", "f", "node 1", "start 1", "halves", "record"])
+        .into();
     let filler = if line == b"#" || line == b"x" { rng.pick(b" x#") } else { b' ' };
     let length = match rng.below(8) {
         0 => rng.between(1_100, 9_000) as usize,

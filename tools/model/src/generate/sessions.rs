@@ -4,9 +4,10 @@ use super::tables::{self, Draft};
 use super::theme::{self, Theme, Wish};
 use super::{faults, frames, lines, logs};
 use crate::console::Console;
-use crate::modbus::Place;
+use crate::modbus::{Place, Slave};
+use crate::panel::{self, Event};
 use crate::rng::Rng;
-use crate::table::{self, slot, SLOTS, Z};
+use crate::table::{self, slot, Action, SLOTS, Z};
 
 /// How long the sessions of a text are.
 #[derive(Clone, Copy, Debug, PartialEq, Eq)]
@@ -49,10 +50,11 @@ impl<'a> Writer<'a> {
     pub fn session(&mut self) {
         let theme = theme::draw(self.rng);
         let wish = theme.wish();
-        let draft = match self.size {
+        let mut draft = match self.size {
             Size::Long if self.rng.chance(60) => tables::draft(self.rng, &wish),
             _ => small(self.rng),
         };
+        set_clear(self.rng, &mut draft.words);
         self.refused_starts(&draft, theme);
         self.set_node();
         self.set_table(&draft.words);
@@ -80,13 +82,14 @@ impl<'a> Writer<'a> {
     /// Events, frames and questions before the first start.
     pub fn before_a_start(&mut self) {
         for _ in 0..self.rng.between(1, 5) {
-            match self.rng.below(7) {
+            match self.rng.below(8) {
                 0 => self.put("t 5"),
                 1 => self.put("i 8"),
                 2 => self.put("c 100"),
                 3 => self.put("f 01 03 00 00 00 02 C4 0B"),
                 4 => self.put("f"),
-                5 => self.put_halves(),
+                5 => self.put_question("halves"),
+                6 => self.put_question("record"),
                 _ => self.odd(),
             }
         }
@@ -158,15 +161,32 @@ impl<'a> Writer<'a> {
         let count = self.rng.between(0, most) as usize;
         let (table, state) = (panel.table.clone(), panel.state);
         for event in logs::events(self.rng, wish, &table, state, anchors, count) {
-            let words = lines::event(self.rng, event);
-            let line = lines::spelled(self.rng, &words);
-            self.put_bytes(&line);
-            self.ask();
+            self.put_event(event);
             if self.rng.chance(3) {
-                let levels = self.rng.ends(8, 255);
-                self.put(&format!("i {levels}"));
-                self.ask();
+                let levels = self.rng.ends(8, 255) as u8;
+                self.put_event(Event::Levels(levels));
             }
+            if self.rng.chance(4) {
+                self.turn_all_inputs();
+            }
+        }
+    }
+
+    /// K6: a clear and a reset may meet.
+    fn turn_all_inputs(&mut self) {
+        if let Some(panel) = &self.console.panel {
+            self.put_event(Event::Levels(panel.state.levels ^ 7));
+        }
+    }
+
+    fn put_event(&mut self, event: Event) {
+        let clears = self.console.panel.as_ref().is_some_and(|panel| clears(panel, event));
+        let words = lines::event(self.rng, event);
+        let line = lines::spelled(self.rng, &words);
+        self.put_bytes(&line);
+        self.ask();
+        if clears && self.rng.chance(70) {
+            self.put_question("record");
         }
     }
 
@@ -216,15 +236,18 @@ impl<'a> Writer<'a> {
         self.ask();
     }
 
-    /// K7: asks for the marks after a third of the events, frames and starts.
+    /// Asks for the marks (K7) after a third of the events, frames and starts, for the record (K6) after
+    /// a fifth.
     fn ask(&mut self) {
-        if self.rng.chance(33) {
-            self.put_halves();
+        for (question, percent) in [("halves", 33), ("record", 20)] {
+            if self.rng.chance(percent) {
+                self.put_question(question);
+            }
         }
     }
 
-    fn put_halves(&mut self) {
-        let words = lines::halves(self.rng);
+    fn put_question(&mut self, question: &str) {
+        let words = lines::question(self.rng, question);
         let line = lines::spelled(self.rng, &words);
         self.put_bytes(&line);
     }
@@ -245,6 +268,14 @@ impl<'a> Writer<'a> {
     }
 }
 
+/// Whether an event asks a panel for a clear.
+fn clears(panel: &Slave, event: Event) -> bool {
+    let Event::Levels(levels @ 0..=7) = event else {
+        return false;
+    };
+    panel::asked(&panel.table, panel.state.levels, levels).contains(&Action::ClearExtremes)
+}
+
 /// The defaults with few slots set, so that positions up to some hundred switch and act.
 fn small(rng: &mut Rng) -> Draft {
     let mut words = table::defaults();
@@ -258,7 +289,7 @@ fn small(rng: &mut Rng) -> Draft {
     set(rng, 15, slot::DIRECTION, 1, 1);
     set(rng, 15, slot::FACTOR, 50_000, 200_000);
     set(rng, 20, slot::ADDITIVE, -200, 200);
-    set(rng, 25, slot::ANALOG, 1, 2);
+    set(rng, 50, slot::ANALOG, 1, 2);
     set(rng, 60, slot::preselection(0), -50, 150);
     set(rng, 50, slot::mode(0), 0, 6);
     set(rng, 30, slot::hysteresis(0), 1, 20);
@@ -291,6 +322,22 @@ fn set_inputs(rng: &mut Rng, words: &mut [i32; SLOTS]) {
             2 => rng.between(0, 1),
             _ => rng.pick(&[2, 2, 2, 0, 1, 3]),
         } as i32;
+    }
+}
+
+/// K6: often a clear, and beside it a reset on the same edge, in either order.
+fn set_clear(rng: &mut Rng, words: &mut [i32; SLOTS]) {
+    if rng.chance(60) {
+        return;
+    }
+    let clear = rng.below(3) as usize;
+    let config = rng.pick(&[2, 2, 2, 0, 1, 3]);
+    words[slot::action(clear)] = 4;
+    words[slot::config(clear)] = config;
+    if rng.chance(60) {
+        let reset = (clear + rng.between(1, 2) as usize) % 3;
+        words[slot::action(reset)] = 1;
+        words[slot::config(reset)] = config;
     }
 }
 

@@ -78,6 +78,12 @@ slice-aggregate-put-bytes-11 c = search needs
 put-bytes-requires-11 : tie.Need-put-bytes-requires-11
 put-bytes-requires-11 c κs = search needs
 
+slice-aggregate-put-bytes-12 : tie.Need-slice-aggregate-put-bytes-12
+slice-aggregate-put-bytes-12 c = search needs
+
+put-bytes-requires-12 : tie.Need-put-bytes-requires-12
+put-bytes-requires-12 c κs = search needs
+
 same-length : tie.Need-same-length
 same-length c = search needs
 
@@ -152,11 +158,18 @@ same-length-11 : tie.Need-same-length-11
 same-length-11 c = search needs
 
 returns-11 : tie.Need-returns-11
-returns-11 c =
+unfolding messageOf
+returns-11 c = rw (c .before .before .before .before .before .match .keys11) (c .before .before .put-bytes11 .ensures)
+
+same-length-12 : tie.Need-same-length-12
+same-length-12 c = search needs
+
+returns-12 : tie.Need-returns-12
+returns-12 c =
     let r = c .before .before .before .before .before .match .rest in
     let k = c .before .before .before .before .before .before .before .args .kind in
-    rw (other-message k (λ h. above 10 k (above 9 k (above 8 k (above 7 k (above 6 k (above 5 k (above 4 k (above 3 k (above 2 k (above 1 k h (r .0 .0 .0 .0 .0 .0 .0 .0 .0 .1)) (r .0 .0 .0 .0 .0 .0 .0 .0 .1)) (r .0 .0 .0 .0 .0 .0 .0 .1)) (r .0 .0 .0 .0 .0 .0 .1)) (r .0 .0 .0 .0 .0 .1)) (r .0 .0 .0 .0 .1)) (r .0 .0 .0 .1)) (r .0 .0 .1)) (r .0 .1)) (r .1)))
-    (c .before .before .put-bytes11 .ensures)
+    rw (other-message k (λ h. above 11 k (above 10 k (above 9 k (above 8 k (above 7 k (above 6 k (above 5 k (above 4 k (above 3 k (above 2 k (above 1 k h (r .0 .0 .0 .0 .0 .0 .0 .0 .0 .0 .1)) (r .0 .0 .0 .0 .0 .0 .0 .0 .0 .1)) (r .0 .0 .0 .0 .0 .0 .0 .0 .1)) (r .0 .0 .0 .0 .0 .0 .0 .1)) (r .0 .0 .0 .0 .0 .0 .1)) (r .0 .0 .0 .0 .0 .1)) (r .0 .0 .0 .0 .1)) (r .0 .0 .0 .1)) (r .0 .0 .1)) (r .0 .1)) (r .1)))
+    (c .before .before .put-bytes12 .ensures)
 
 pub put-message-spec : {M : Type 1} → statement M
 put-message-spec =
@@ -184,6 +197,8 @@ put-message-spec =
     put-bytes-requires-10
     slice-aggregate-put-bytes-11
     put-bytes-requires-11
+    slice-aggregate-put-bytes-12
+    put-bytes-requires-12
     same-length
     returns
     same-length-2
@@ -205,4 +220,6 @@ put-message-spec =
     same-length-10
     returns-10
     same-length-11
-    returns-11)
+    returns-11
+    same-length-12
+    returns-12)
