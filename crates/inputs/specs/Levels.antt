@@ -1,7 +1,7 @@
 -- Levels: what a change of the inputs' levels makes act, and the commands of the three inputs, each on what the earlier ones left.
 -- Paper 01, "Events and inputs", second paragraph; paper 02, K7, the marks. Inputs are i = 0..2. Assumes nothing.
 use mathlib.Core.List.{List}
-use mathlib.Core.Bool.{Bool, true, false, cond, not, _&&_}
+use mathlib.Core.Bool.{Bool, true, false, cond, not, _&&_, _||_}
 use Prim.Native.Nat.{ℕ, _/_, _%_, _^_}
 use lib.Dec.{eqb}
 use lib.IntN.{ℤ}
@@ -53,6 +53,10 @@ marksAt l i x h = cond (edgeAt (x .state) l i) (marksAfter (inputAt (x .state .t
 -- "the actions of inputs 1, 2, 3 in that order"
 unfoldable pub commandsOf : State → ℕ → Acted
 commandsOf s l = inputOf l 2 (inputOf l 1 (inputOf l 0 (acted s 0)))
+
+-- some input does so, each asked on what the earlier ones left
+abbrev pub someInput : (ℕ → Acted → Bool) → State → ℕ → Bool
+someInput does s l = does 0 (acted s 0) || (does 1 (inputOf l 0 (acted s 0)) || does 2 (inputOf l 1 (inputOf l 0 (acted s 0))))
 
 -- K7: the marks of the last reset carried out, none where there is none
 unfoldable pub marksLeft : State → ℕ → ℕ

@@ -32,7 +32,7 @@ use Rattle.panel.specs.declared.Answer.{Answer}
 use Rattle.state.specs.declared.State.{State}
 use Rattle.panel.specs.Step.{answerOf, switchedOf, displayedOf, endedOf, onTelegram, onLevels, onTick, stepOf}
 use Rattle.panel.specs.ValidLaws.{by-switched, by-step}
-use Rattle.runs.specs.Run.{answersOf, tracked, seenIn, teaches, storesAt, storedBy, stored}
+use Rattle.runs.specs.Run.{answersOf, tracked, seenIn, someCommand, someEvent, teaches, storesAt, storedBy, stored}
 use Rattle.runs.specs.RunLaws.{step-own, own-result, own-error}
 use Rattle.runs.specs.KeptLaws.{Kept, kept-input, kept-step}
 
@@ -97,7 +97,7 @@ unfolding switchedOf displayedOf
 ended-table s = refl
 
 pub step-stores : (s : State) (e : Event) → T (not (storedBy s e)) → preselectionsIn (stepOf s e .state) ≡ preselectionsIn s
-unfolding stepOf onTelegram onLevels onTick answerOf storedBy commandsOf rereadOf receivedOf
+unfolding stepOf onTelegram onLevels onTick answerOf someCommand commandsOf rereadOf receivedOf
 step-stores s (Telegram w) n =
     by-test (acceptsOf (s .table) w) _ _ (λ (a : Answer). preselectionsIn (a .state) ≡ preselectionsIn s)
     (λ _. rw (ended-table (receivedOf s w))) (λ _. refl)
@@ -130,7 +130,7 @@ module _ {t : List ℤ} (none : (i : ℕ) → i < 3 → T (not (isTeach (inputAt
       (no-and (edgeAt (x .state) l i) _ (no-first (isTeach (inputAt t i .action)) _ (none i h)))
 
   step-quiet : (s : State) (e : Event) → Kept t s → T (not (storedBy s e))
-  unfolding storedBy
+  unfolding someCommand
   step-quiet s (Telegram w) c = tt
   step-quiet s (Levels l) c =
       let x₀ = acted s 0 in
@@ -142,7 +142,7 @@ module _ {t : List ℤ} (none : (i : ℕ) → i < 3 → T (not (isTeach (inputAt
   step-quiet s (Tick ms) c = tt
 
   pub teachless-quiet : (s : State) → Kept t s → (es : List Event) → T (not (stored s es))
-  unfolding stored
+  unfolding someEvent
   teachless-quiet s c [] = tt
   teachless-quiet s c (e ∷ es) = no-or (storedBy s e) _ (step-quiet s e c) (teachless-quiet (stepOf s e .state) (kept-step t c e) es)
 
@@ -152,7 +152,7 @@ Unchanged ps s [] = Unit {0}
 Unchanged ps s (e ∷ es) = (preselectionsOf (stepOf s e .state .table) ≡ ps) × Unchanged ps (stepOf s e .state) es
 
 pub quiet-unchanged : (ps : List Preselection) (s : State) (es : List Event) → T (not (stored s es)) → preselectionsIn s ≡ ps → Unchanged ps s es
-unfolding stored Unchanged
+unfolding someEvent Unchanged
 quiet-unchanged ps s [] n e = tt
 quiet-unchanged ps s (v ∷ es) n e =
     let same = step-stores s v (or-left (storedBy s v) (stored (stepOf s v .state) es) n) ∙ e in

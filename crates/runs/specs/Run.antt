@@ -5,8 +5,8 @@ use mathlib.Core.List.{List, [], _∷_}
 use Prim.Native.Nat.{ℕ}
 use lib.Dec.{eqb, leb}
 use lib.IntN.{ℤ, pos}
-use Rattle.inputs.specs.Commands.{Acted, acted, refusalOf}
-use Rattle.inputs.specs.Levels.{edgeAt, inputOf}
+use Rattle.inputs.specs.Commands.{Acted, refusalOf}
+use Rattle.inputs.specs.Levels.{edgeAt, someInput}
 use Rattle.settings.specs.declared.Action.{Action}
 use Rattle.settings.specs.Settings.{isTeach, inputAt}
 use Rattle.state.specs.State.{freshOf}
@@ -53,6 +53,19 @@ seenIn k (a ∷ rest) = record { result = tracked a; on = switchAt (a .state .li
 abbrev pub traceOf : List ℤ → List Event → ℕ → List Seen
 traceOf t es k = seenIn k (answersOf (freshOf t) es)
 
+-- ---- what some command of a list does
+
+-- some input of accepted levels does so
+unfoldable pub someCommand : (ℕ → ℕ → Acted → Bool) → State → Event → Bool
+someCommand does s (Telegram w) = false
+someCommand does s (Levels l) = leb l 7 && someInput (does l) s l
+someCommand does s (Tick ms) = false
+
+-- some event of a list does so, in the engine with this step
+unfoldable pub someEvent : (State → Event → Bool) → (State → Event → Answer) → State → List Event → Bool
+someEvent does step s [] = false
+someEvent does step s (e ∷ es) = does s e || someEvent does step (step s e .state) es
+
 -- ---- a command stores a preselection: a teach, actions 5 to 8, that is not refused
 
 unfoldable pub teaches : Action → State → Bool
@@ -62,13 +75,9 @@ teaches a s = isTeach a && eqb (refusalOf a s) 0
 unfoldable pub storesAt : ℕ → ℕ → Acted → Bool
 storesAt l i x = edgeAt (x .state) l i && teaches (inputAt (x .state .table) i .action) (x .state)
 
-unfoldable pub storedBy : State → Event → Bool
-storedBy s (Telegram w) = false
-storedBy s (Levels l) =
-    leb l 7 && (storesAt l 0 (acted s 0) || (storesAt l 1 (inputOf l 0 (acted s 0)) || storesAt l 2 (inputOf l 1 (inputOf l 0 (acted s 0)))))
-storedBy s (Tick ms) = false
+-- some command of an event, and of a list, does
+abbrev pub storedBy : State → Event → Bool
+storedBy s e = someCommand storesAt s e
 
--- some command of the list does
-unfoldable pub stored : State → List Event → Bool
-stored s [] = false
-stored s (e ∷ es) = storedBy s e || stored (stepOf s e .state) es
+abbrev pub stored : State → List Event → Bool
+stored s es = someEvent storedBy stepOf s es

@@ -3,7 +3,7 @@
 -- numbers, a code's drive is exactly the paper's fraction (`unrounded` of analog), and drives compare as codes do (`drive-order`).
 -- Paper 02, K6. This file is definitions only; `ends-so` of EventLaws and `screened` of ScreenLaws prove it.
 use mathlib.Core.Path.{_≡_}
-use mathlib.Core.Bool.{Bool, true, false, cond, _&&_, _||_}
+use mathlib.Core.Bool.{Bool, true, false, cond, _&&_}
 use mathlib.Core.List.{List, [], _∷_}
 use Prim.Native.Nat.{ℕ}
 use lib.Dec.{T, leb}
@@ -15,8 +15,8 @@ use Rattle.driverecord.specs.Codes.{drivenBy, recordOf}
 use Rattle.driverecord.specs.DriveRecord.{isOn, presentOf, updatedOf, clearedAt}
 use Rattle.events.specs.declared.Event.{Event}
 use Rattle.events.specs.declared.Event.the-variants.{Telegram, Levels, Tick}
-use Rattle.inputs.specs.Commands.{Acted, acted}
-use Rattle.inputs.specs.Levels.{edgeAt, inputOf}
+use Rattle.inputs.specs.Commands.{Acted}
+use Rattle.inputs.specs.Levels.{edgeAt, someInput}
 use Rattle.driverecord.specs.Least.{Among, Between}
 use Rattle.panel.specs.declared.Answer.{Answer}
 use Rattle.panel.specs.Step.{stepOf}
@@ -41,7 +41,7 @@ clearsAt l i x = edgeAt (x .state) l i && isClearExtremes (inputAt (x .state .ta
 -- some input does, whichever it is
 unfoldable pub clears : State → Event → Bool
 clears s (Telegram w) = false
-clears s (Levels l) = clearsAt l 0 (acted s 0) || (clearsAt l 1 (inputOf l 0 (acted s 0)) || clearsAt l 2 (inputOf l 1 (inputOf l 0 (acted s 0))))
+clears s (Levels l) = someInput (clearsAt l) s l
 clears s (Tick ms) = false
 
 -- the record at the end of an accepted event, where d drives the line: "there clear min/max sets both to present, or marks them empty when off"

@@ -1,7 +1,7 @@
 -- WHERE M IS A MULTIPLE OF R, OLD AND NEW RULE AGREE: the new panel's count is the old one's position modulo R, their offsets are equal modulo R, so the distances are
 -- equal, and with them all that follows. Commands move both alike, since a reset that 13 leaves is refused by neither. Paper 02, K4.
 use mathlib.Core.Path.{_≡_, refl, sym, ap, subst, _∙_}
-use mathlib.Core.Bool.{Bool, true, false, cond, not, _&&_}
+use mathlib.Core.Bool.{Bool, true, false, cond, _&&_}
 use mathlib.Core.List.{List, [], _∷_}
 use Prim.Native.Nat.{ℕ, zero, suc, _*_, _≤_, _<_}
 use native.Mathlib.Decide.{ℕ-discrete}
@@ -37,7 +37,7 @@ use Rattle.reading.specs.FollowLaws.{by-follow}
 use Rattle.reading.specs.Reading.{acceptsOf, directedAt, basisOf, noHalves}
 use Rattle.roundloop.specs.CountLaws.{first-is, counted-position}
 use Rattle.runs.specs.KeptLaws.{Kept, kept-bit, kept-fresh, kept-input, kept-step}
-use Rattle.runs.specs.Run.{answersOf}
+use Rattle.runs.specs.Run.{answersOf, someCommand, someEvent}
 use Rattle.settings.specs.declared.Action.{Action}
 use Rattle.settings.specs.declared.Action.the-variants.{None, Reset, Freeze, ClearLocks, ClearExtremes, Teach}
 use Rattle.settings.specs.AlikeLaws.{layout-alike, loop-alike}
@@ -363,7 +363,7 @@ module _ {t : List ℤ} (v : Valid t) (h : 0 < roundLoop t) (c : ℕ) (multiple 
       tied (x .tables) (x .basis) (x .levels) (x .seen) (x .reading) (x .shown) (x .extremes) (x .driven) (rw (x .switches))
 
   step-tied : (s o : State) → Good s → Kept t s → Ties s o → (e : Event) → barredBy o e ≡ false → Stepped (stepOf s e) (oldStep o e)
-  unfolding stepOf onTelegram oldStep oldTelegram onLevels onTick barredBy
+  unfolding stepOf onTelegram oldStep oldTelegram onLevels onTick someCommand
   step-tied s o g k x (Telegram w) n =
       rw (accepts-alike (x .tables .alike) stored-layout w)
       (both (acceptsOf (o .table) w) _ _ _ _ Stepped
@@ -379,7 +379,7 @@ module _ {t : List ℤ} (v : Valid t) (h : 0 < roundLoop t) (c : ℕ) (multiple 
   step-tied s o g k x (Tick ms) n = stepped (recorded-tied (ticked x ms)) 0 0 noHalves noHalves refl refl
 
   run-tied : (s o : State) → Good s → Kept t s → Ties s o → (es : List Event) → barredIn oldStep o es ≡ false → AllSame (answersOf s es) (oldAnswers o es)
-  unfolding answersOf oldAnswers barredIn AllSame
+  unfolding answersOf oldAnswers someEvent AllSame
   run-tied s o g k x [] n = tt
   run-tied s o g k x (e ∷ es) n =
       let m = or-both (barredBy o e) _ n in

@@ -5,7 +5,7 @@ use mathlib.Core.List.{List, [], _∷_}
 use Prim.Native.Nat.{ℕ, _≤_, _<_}
 use native.Mathlib.Omega.{arith}
 use borrow.Author.Tests.{le-ltb}
-use lib.Dec.{eqb, ltb, leb}
+use lib.Dec.{eqb, leb}
 use lib.IntN.{ℤ}
 use Rattle.events.specs.declared.Event.{Event}
 use Rattle.events.specs.declared.Event.the-variants.{Telegram, Levels, Tick}
@@ -26,7 +26,7 @@ use Rattle.reading.specs.AlikeLaws.{basis-alike}
 use Rattle.reading.specs.FollowLaws.{start-below}
 use Rattle.reading.specs.Reading.{acceptsOf}
 use Rattle.runs.specs.KeptLaws.{Kept, kept-fresh, kept-step}
-use Rattle.runs.specs.Run.{answersOf}
+use Rattle.runs.specs.Run.{answersOf, someCommand, someEvent}
 use Rattle.settings.specs.declared.Action.{Action}
 use Rattle.settings.specs.declared.Action.the-variants.{None, Reset, Freeze, ClearLocks, ClearExtremes, Teach}
 use Rattle.settings.specs.Settings.{inputAt}
@@ -121,7 +121,7 @@ module _ {t : List ℤ} (v : Valid t) (h : 0 < roundLoop t) where
     commands-not = input-not l 2 x₂ u₂ (input-not l 1 x₁ u₁ (input-not l 0 x₀ (up-to s u) refl))
 
     levels-unbarred : barredBy s (Levels l) ≡ false
-    unfolding barredBy
+    unfolding someCommand
     levels-unbarred = rw (barred-not l 0 x₀ (up-to s u), barred-not l 1 x₁ u₁, barred-not l 2 x₂ u₂) (none-after (leb l 7))
 
   step-not : (s : State) (e : Event) → Under (roundLoop t) s → Not12 (stepOf s e .note)
@@ -131,7 +131,7 @@ module _ {t : List ℤ} (v : Valid t) (h : 0 < roundLoop t) where
   step-not s (Tick ms) u = refl
 
   step-unbarred : (s : State) (e : Event) → Under (roundLoop t) s → barredBy s e ≡ false
-  unfolding barredBy
+  unfolding someCommand
   step-unbarred s (Telegram w) u = refl
   step-unbarred s (Levels l) u = levels-unbarred s l u
   step-unbarred s (Tick ms) u = refl
@@ -142,7 +142,7 @@ module _ {t : List ℤ} (v : Valid t) (h : 0 < roundLoop t) where
   run-not {s} k u (e ∷ es) = rw (step-not s e u) (run-not (kept-step t k e) (under-step h k u e) es)
 
   run-unbarred : {s : State} → Kept t s → Under (roundLoop t) s → (es : List Event) → barredIn stepOf s es ≡ false
-  unfolding barredIn
+  unfolding someEvent
   run-unbarred k u [] = refl
   run-unbarred {s} k u (e ∷ es) = rw (step-unbarred s e u) (run-unbarred (kept-step t k e) (under-step h k u e) es)
 

@@ -7,12 +7,12 @@ use mathlib.Core.Path.{_≡_}
 use mathlib.Core.Bool.{Bool, false, cond, not, _&&_, _||_}
 use mathlib.Core.List.{List, [], _∷_}
 use Prim.Native.Nat.{ℕ, _*_, _<_}
-use lib.Dec.{eqb, leb}
+use lib.Dec.{eqb}
 use lib.IntN.{ℤ, pos, _+ℤ_}
 use Rattle.events.specs.declared.Event.{Event}
 use Rattle.events.specs.declared.Event.the-variants.{Telegram, Levels, Tick}
-use Rattle.inputs.specs.Commands.{Acted, acted, refusalOf}
-use Rattle.inputs.specs.Levels.{edgeAt, inputOf}
+use Rattle.inputs.specs.Commands.{Acted, refusalOf}
+use Rattle.inputs.specs.Levels.{edgeAt}
 use Rattle.integers.specs.Int.{P}
 use Rattle.integers.specs.Round.{floorMod}
 use Rattle.panel.specs.declared.Answer.{Answer}
@@ -22,7 +22,7 @@ use Rattle.parameters.specs.Slots.{roundLoop}
 use Rattle.reading.specs.Reading.{acceptsOf, directedAt}
 use Rattle.roundloop.specs.Count.{Short}
 use Rattle.runs.specs.Book.{bookOf}
-use Rattle.runs.specs.Run.{runOf, answersOf}
+use Rattle.runs.specs.Run.{runOf, answersOf, someCommand, someEvent}
 use Rattle.settings.specs.Settings.{layoutOf, inputAt}
 use Rattle.ssi.specs.Telegram.{errorReported, modulus}
 use Rattle.state.specs.declared.State.{State}
@@ -75,16 +75,12 @@ AllTravelled = (t : List ℤ) → loadRefusal t ≡ 0 → 0 < roundLoop t → (e
 unfoldable pub barredAt : ℕ → ℕ → Acted → Bool
 barredAt l i x = edgeAt (x .state) l i && eqb (refusalOf (inputAt (x .state .table) i .action) (x .state)) 12
 
-unfoldable pub barredBy : State → Event → Bool
-barredBy s (Telegram w) = false
-barredBy s (Levels l) =
-    leb l 7 && (barredAt l 0 (acted s 0) || (barredAt l 1 (inputOf l 0 (acted s 0)) || barredAt l 2 (inputOf l 1 (inputOf l 0 (acted s 0)))))
-barredBy s (Tick ms) = false
+abbrev pub barredBy : State → Event → Bool
+barredBy s e = someCommand barredAt s e
 
 -- some reset of a list is, in the engine with this step
-unfoldable pub barredIn : (State → Event → Answer) → State → List Event → Bool
-barredIn step s [] = false
-barredIn step s (e ∷ es) = barredBy s e || barredIn step (step s e .state) es
+abbrev pub barredIn : (State → Event → Answer) → State → List Event → Bool
+barredIn step s es = someEvent barredBy step s es
 
 -- some answer has a note
 unfoldable pub noted : ℕ → List Answer → Bool
