@@ -1,5 +1,5 @@
 -- The same record in whole numbers: made of the codes that were driven since the last clear. Paper 02, K6. Assumes nothing.
-use mathlib.Core.Bool.{false, cond}
+use mathlib.Core.Bool.{cond}
 use mathlib.Core.List.{List, [], _∷_}
 use Prim.Native.Nat.{ℕ}
 use lib.IntN.{ℤ}
@@ -17,4 +17,4 @@ drivenBy d code codes = cond (isOn d) (code ∷ codes) codes
 -- present as given; lowest and highest are the drives of the least and the greatest code, empty where there is none
 unfoldable pub recordOf : ℕ → Float → List ℤ → DriveRecord
 recordOf format p [] = emptyAt p
-recordOf format p (c ∷ cs) = record { present = p; lowest = floatOf format (leastOf c cs); highest = floatOf format (greatestOf c cs); empty = false }
+recordOf format p (c ∷ cs) = record { present = p; lowest = floatOf format (leastOf c cs); highest = floatOf format (greatestOf c cs); empty = 0 }

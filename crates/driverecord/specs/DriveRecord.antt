@@ -1,6 +1,7 @@
 -- The record of present, lowest and highest drive, in the unit of the format, as 32-bit floats. Paper 02, K6. Assumes nothing.
 -- RecordLaws says the same in whole numbers.
 use mathlib.Core.Bool.{Bool, true, false, cond}
+use lib.Dec.{eqb}
 use lib.IntN.{pos}
 use lib.Ieee.{Float, fin, lt}
 use Rattle.analog.specs.declared.Drive.{Drive}
@@ -27,9 +28,13 @@ presentOf (Milliamps x) = x
 
 -- ---- the record
 
+-- the mark of an empty one
+abbrev pub isEmpty : DriveRecord → Bool
+isEmpty r = eqb (r .empty) 1
+
 -- lowest and highest empty; "an empty one holds 0"
 abbrev pub emptyAt : Float → DriveRecord
-emptyAt p = record { present = p; lowest = zeroDrive; highest = zeroDrive; empty = true }
+emptyAt p = record { present = p; lowest = zeroDrive; highest = zeroDrive; empty = 1 }
 
 -- "A fresh state has present zero and both empty"
 abbrev pub freshRecord : DriveRecord
@@ -37,7 +42,7 @@ freshRecord = emptyAt zeroDrive
 
 -- both at present
 abbrev pub bothAt : Float → DriveRecord
-bothAt p = record { present = p; lowest = p; highest = p; empty = false }
+bothAt p = record { present = p; lowest = p; highest = p; empty = 0 }
 
 -- the lower and the higher of two drives
 abbrev pub lowerOf : Float → Float → Float
@@ -48,7 +53,7 @@ higherOf x y = cond (lt y x) x y
 
 -- with one more drive
 unfoldable pub widenedBy : DriveRecord → Float → DriveRecord
-widenedBy r p = cond (r .empty) (bothAt p) (record { present = p; lowest = lowerOf p (r .lowest); highest = higherOf p (r .highest); empty = false })
+widenedBy r p = cond (isEmpty r) (bothAt p) (record { present = p; lowest = lowerOf p (r .lowest); highest = higherOf p (r .highest); empty = 0 })
 
 -- "Drive off leaves lowest and highest alone and sets present to zero"
 abbrev pub leftAlone : DriveRecord → DriveRecord

@@ -11,7 +11,7 @@ use Rattle.analog.specs.Drives.{divisor, analogValue, floatOf, driveOf, CodeDri
 use Rattle.analog.specs.FloatValue.{Is}
 use Rattle.integers.specs.ChoiceLaws.{by-test}
 use Rattle.driverecord.specs.declared.DriveRecord.{DriveRecord}
-use Rattle.driverecord.specs.DriveRecord.{zeroDrive, isOn, presentOf, emptyAt, bothAt, widenedBy, leftAlone, updatedOf}
+use Rattle.driverecord.specs.DriveRecord.{zeroDrive, isOn, presentOf, isEmpty, emptyAt, bothAt, widenedBy, leftAlone, updatedOf}
 use Rattle.driverecord.specs.Numbers.{Number, Numbers}
 
 -- ---- drives
@@ -53,7 +53,7 @@ both-numbers h = record { present = h; lowest = h; highest = h }
 widened-numbers : (r : DriveRecord) (p : Float) → Numbers r → Number p → Numbers (widenedBy r p)
 unfolding widenedBy
 widened-numbers r p n h =
-    by-test (r .empty) (bothAt p) _ Numbers (λ _. both-numbers h)
+    by-test (isEmpty r) (bothAt p) _ Numbers (λ _. both-numbers h)
     (λ _. record {
       present = h;
       lowest = by-test (lt p (r .lowest)) p (r .lowest) Number (λ _. h) (λ _. n .lowest);

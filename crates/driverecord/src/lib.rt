@@ -12,8 +12,8 @@ pub struct DriveRecord {
     // Since the last clear; 0 while empty.
     pub lowest: f32,
     pub highest: f32,
-    // Whether there is no lowest and no highest.
-    pub empty: bool,
+    // 1 where there is no lowest and no highest, else 0. As wide as a float, so that the four are copied as they are stored.
+    pub empty: u32,
 }
 
 // Present as given, lowest and highest empty.
@@ -24,7 +24,7 @@ fn empty_at(present: f32) -> DriveRecord
         present,
         lowest: 0.0,
         highest: 0.0,
-        empty: true,
+        empty: 1,
     }
 }
 
@@ -69,19 +69,19 @@ fn widened(r: DriveRecord, p: f32) -> DriveRecord
     requires { ⌜ Numbers r × Number p ⌝ }
     ensures { λ n. ⌜ n ≡ widenedBy r p ⌝ }
 {
-    if r.empty {
+    if r.empty == 1 {
         return DriveRecord {
             present: p,
             lowest: p,
             highest: p,
-            empty: false,
+            empty: 0,
         };
     }
     DriveRecord {
         present: p,
         lowest: lower(p, r.lowest),
         highest: higher(p, r.highest),
-        empty: false,
+        empty: 0,
     }
 }
 

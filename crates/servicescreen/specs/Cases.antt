@@ -1,6 +1,5 @@
 -- What the service screen shows, by the bits of its floats: runs of the definitions beside what is worked out by hand, one list and one proof by computing. Paper 02, K6.
 use mathlib.Core.Path.{refl}
-use mathlib.Core.Bool.{Bool, true, false}
 use mathlib.Core.List.{List, [], _∷_}
 use Prim.Native.Nat.{ℕ}
 use lib.IntN.{ℤ, pos}
@@ -53,13 +52,13 @@ pub record Shown : Type 0 where
   pub present : ℕ
   pub lowest : ℕ
   pub highest : ℕ
-  pub empty : Bool
+  pub empty : ℕ
 
 abbrev shown : ℕ → ℕ → ℕ → Shown
-shown p l h = record { present = p; lowest = l; highest = h; empty = false }
+shown p l h = record { present = p; lowest = l; highest = h; empty = 0 }
 
 abbrev shownEmpty : ℕ → Shown
-shownEmpty p = record { present = p; lowest = 0; highest = 0; empty = true }
+shownEmpty p = record { present = p; lowest = 0; highest = 0; empty = 1 }
 
 abbrev shownOf : DriveRecord → Shown
 shownOf r = record { present = toBits binary32 (r .present); lowest = toBits binary32 (r .lowest); highest = toBits binary32 (r .highest); empty = r .empty }

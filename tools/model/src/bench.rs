@@ -31,8 +31,8 @@ const RING: usize = 4_096;
 pub const KINDS: [&str; 8] =
     ["telegrams", "levels", "ticks", "mixed", "far_end", "middle", "near_end", "round_loop"];
 
-/// Runs the events of an input through the 64-bit panel again and again; a sum over all answers
-/// and the records after them.
+/// Runs the events of an input through the 64-bit panel again and again; a sum over all answers,
+/// and the record after each round.
 pub fn sum(input: &[u8], rounds: u64) -> u64 {
     let table = panelrun::load(&input[..TABLE_BYTES]).unwrap();
     let events = log::read(&input[TABLE_BYTES..]).events;
@@ -48,10 +48,9 @@ pub fn sum(input: &[u8], rounds: u64) -> u64 {
 #[inline]
 fn run_once(panel: &mut Panel, events: &[Event], mut sum: u64) -> u64 {
     for event in events {
-        let answer = panel.step(black_box(*event));
-        sum = sum.wrapping_add(part(&answer)).wrapping_add(record_part(&panel.record));
+        sum = sum.wrapping_add(part(&panel.step(black_box(*event))));
     }
-    sum
+    sum.wrapping_add(record_part(&panel.record))
 }
 
 /// What an answer adds to the sum.
@@ -71,7 +70,7 @@ fn halves_part(halves: &Halves) -> u64 {
     u64::from(halves.scaling) + 2 * u64::from(halves.linearization) + 4 * u64::from(halves.analog)
 }
 
-/// K6: what the record after an event adds to the sum.
+/// K6: what the record after a round adds to the sum.
 fn record_part(record: &Record) -> u64 {
     let floats = [record.present, record.lowest, record.highest];
     let bits: u64 = floats.iter().map(|float| u64::from(float.to_bits())).sum();

@@ -7,7 +7,7 @@ use model::differ::Counts;
 use model::fast::{self, Panel};
 use model::generate::{self, theme};
 use model::log;
-use model::panel::{self, Halves};
+use model::panel::{self, Answer, Halves};
 use model::panelrun::{self, TABLE_BYTES};
 use model::{print, record};
 
@@ -50,41 +50,48 @@ fn bits(record: &fast::Record) -> panel::Record {
     panel::Record { present, lowest, highest, empty }
 }
 
-/// The sum of the reference over the events of an input, some rounds of them.
+/// The sum of the reference over the events of an input, some rounds of them; each ends with the record.
 fn reference_sum(input: &[u8], rounds: u64) -> u64 {
     let table = panelrun::load(input).unwrap();
     let events = log::read(&input[TABLE_BYTES..]).events;
     let mut state = panel::fresh(&table);
     let mut sum = 0u64;
-    for &event in (0..rounds).flat_map(|_| &events) {
-        let (after, answer) = panel::step(&table, &state, event);
-        let record = panel::record(&table, &after);
-        let drive = match answer.drive {
-            Drive::Off => 1,
-            Drive::Volts(volts) => 2 + u64::from(volts > 5.0),
-            Drive::Milliamps(milliamps) => 4 + u64::from(milliamps > 12.0),
-        };
-        let Halves { scaling, linearization, analog } = answer.halves;
-        let number = |marks: &[bool]| {
-            marks.iter().rev().fold(0, |number, &mark| 2 * number + u64::from(mark))
-        };
-        let parts = [
-            (1, (answer.result + (1 << 31)) as u64),
-            (3, (answer.shown + (1 << 31)) as u64),
-            (5, answer.error.into()),
-            (7, number(&answer.outputs)),
-            (11, drive),
-            (13, answer.note.into()),
-            (17, number(&[scaling, linearization, analog])),
-            (19, record.present.into()),
-            (19, record.lowest.into()),
-            (19, record.highest.into()),
-            (23, record.empty.into()),
-        ];
+    let mut add = |parts: &[(u64, u64)]| {
         sum = parts.iter().fold(sum, |sum, (times, part)| sum.wrapping_add(times * part));
-        state = after;
+    };
+    for _ in 0..rounds {
+        for &event in &events {
+            let (after, answer) = panel::step(&table, &state, event);
+            add(&answer_parts(&answer));
+            state = after;
+        }
+        let record = panel::record(&table, &state);
+        let floats = [record.present, record.lowest, record.highest];
+        add(&floats.map(|float| (19, float.into())));
+        add(&[(23, record.empty.into())]);
     }
     sum
+}
+
+/// What an answer adds to the sum, each number with how often it counts.
+fn answer_parts(answer: &Answer) -> [(u64, u64); 7] {
+    let drive = match answer.drive {
+        Drive::Off => 1,
+        Drive::Volts(volts) => 2 + u64::from(volts > 5.0),
+        Drive::Milliamps(milliamps) => 4 + u64::from(milliamps > 12.0),
+    };
+    let Halves { scaling, linearization, analog } = answer.halves;
+    let number =
+        |marks: &[bool]| marks.iter().rev().fold(0, |number, &mark| 2 * number + u64::from(mark));
+    [
+        (1, (answer.result + (1 << 31)) as u64),
+        (3, (answer.shown + (1 << 31)) as u64),
+        (5, answer.error.into()),
+        (7, number(&answer.outputs)),
+        (11, drive),
+        (13, answer.note.into()),
+        (17, number(&[scaling, linearization, analog])),
+    ]
 }
 
 #[test]

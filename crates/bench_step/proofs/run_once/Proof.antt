@@ -28,8 +28,8 @@ event-of-requires c κs = search needs
 advance-requires : tie.Need-advance-requires Inv-loop μ-loop
 advance-requires c κs = search needs
 
-told-requires : tie.Need-told-requires Inv-loop μ-loop
-told-requires c κs = search needs
+part-requires : tie.Need-part-requires Inv-loop μ-loop
+part-requires c κs = search needs
 
 wrapping-add-u64-requires : tie.Need-wrapping-add-u64-requires Inv-loop μ-loop
 wrapping-add-u64-requires c κs = search needs
@@ -42,6 +42,12 @@ loop-less c = search needs
 
 loop-again : tie.Need-loop-again Inv-loop μ-loop
 loop-again c = search needs
+
+record-part-requires : tie.Need-record-part-requires Inv-loop μ-loop
+record-part-requires c κs = search needs
+
+wrapping-add-u64-requires-2 : tie.Need-wrapping-add-u64-requires-2 Inv-loop μ-loop
+wrapping-add-u64-requires-2 c κs = search needs
 
 returns : tie.Need-returns Inv-loop μ-loop
 returns c = search needs
@@ -57,9 +63,11 @@ run-once-spec =
     shared-slice-read-event-of
     event-of-requires
     advance-requires
-    told-requires
+    part-requires
     wrapping-add-u64-requires
     add-i
     loop-less
     loop-again
+    record-part-requires
+    wrapping-add-u64-requires-2
     returns)
