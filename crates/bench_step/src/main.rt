@@ -101,7 +101,9 @@ fn record_part(d: DriveRecord) -> u64
     requires { ⌜ Numbers d ⌝ }
     ensures { λ r. ⌜ r ≤ 343597383600 ⌝ }
 {
-    let floats = wide(f32::to_bits(d.present)) + wide(f32::to_bits(d.lowest)) + wide(f32::to_bits(d.highest));
+    let floats = wide(f32::to_bits(d.present))
+        + wide(f32::to_bits(d.lowest))
+        + wide(f32::to_bits(d.highest));
     19 * floats + 23 * wide(d.empty)
 }
 

@@ -59,5 +59,5 @@ good-step {s} g e =
     by-step s e Good g
     (λ w. good-ended (receivedOf s w) (good-received s w g))
     (λ l. let h = good-commands s l g in
-      good-ended (withLevels (commandsOf s l .state) l) (record { table = h .table; result = h .result; drive = h .drive; driven = h .driven }))
+    good-ended (withLevels (commandsOf s l .state) l) (record { table = h .table; result = h .result; drive = h .drive; driven = h .driven }))
     (λ ms. good-recorded _ (record { table = g .table; result = g .result; drive = g .drive; driven = g .driven }))
