@@ -2,7 +2,7 @@
 // Uses `analog` for the drive.
 use analog::Drive;
 ghost use mathlib.Core.Path.{_≡_};
-ghost use Rattle.driverecord.specs.DriveRecord.{isOn, presentOf, emptyAt, freshRecord, lowerOf, higherOf, widenedBy, leftAlone, updatedOf, emptied};
+ghost use Rattle.driverecord.specs.DriveRecord.{presentOf, emptyAt, freshRecord, lowerOf, higherOf, widenedBy, leftAlone, updatedOf, emptied};
 ghost use Rattle.driverecord.specs.Numbers.{Number, Numbers};
 
 // Present, lowest and highest drive, in the unit of the format.

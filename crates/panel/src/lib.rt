@@ -112,7 +112,7 @@ fn refused(l: Live, note: u8) -> Begun
     }
 }
 
-// A telegram: refused with 11, or read.
+// A telegram: refused with 11, or read and recorded.
 fn on_telegram(t: &[i32; 104], l: Live, telegram: u32) -> Begun
     requires { ⌜ Good (stateOf (now t) l) ⌝ }
     ensures { λ r. ⌜ answerAfter (now (t .entry)) r ≡ onTelegram (stateOf (now (t .entry)) l) telegram ⌝ }
@@ -133,7 +133,7 @@ fn on_telegram(t: &[i32; 104], l: Live, telegram: u32) -> Begun
     }
 }
 
-// Levels: refused with 10, or their commands run.
+// Levels: refused with 10, or their commands run, and what they leave recorded.
 fn on_levels(t: &mut [i32; 104], l: Live, levels: u8) -> Begun
     requires { ⌜ Good (stateOf (now t) l) ⌝ }
     ensures { λ r. ⌜ answerAfter (now (t .exit)) r ≡ onLevels (stateOf (now (t .entry)) l) levels ⌝ }
@@ -152,7 +152,7 @@ fn on_levels(t: &mut [i32; 104], l: Live, levels: u8) -> Begun
     }
 }
 
-// A tick: pulses are used up.
+// A tick: pulses are used up, and the record is brought up to date.
 fn on_tick(l: Live, ms: u16) -> Begun
     requires { ⌜ Numbers (l .driven) × Number (presentOf (l .reading .drive)) ⌝ }
     ensures { λ r. ⌜ r ≡ record { live = setRecorded (setSwitches l (allTicked ms (l .switches))); note = 0; halves = noHalves; settles = false } ⌝ }
@@ -168,7 +168,7 @@ fn on_tick(l: Live, ms: u16) -> Begun
     }
 }
 
-// An event before switching and display.
+// An event before switching and display, which do not look at the record.
 fn begin(t: &mut [i32; 104], l: Live, e: Event) -> Begun
     requires { ⌜ Good (stateOf (now t) l) ⌝ }
     ensures { λ r. ⌜ answerAfter (now (t .exit)) r ≡ stepOf (stateOf (now (t .entry)) l) e ⌝ }

@@ -29,7 +29,7 @@ ghost use Rattle.logrun.specs.Input.{tableOf};
 ghost use Rattle.logrun.specs.Output.{openingText};
 ghost use Rattle.panel.specs.Load.{loadedOf};
 ghost use Rattle.parameters.specs.Valid.{Valid};
-ghost use Rattle.script.specs.Commands.{commandOf, frameOf};
+ghost use Rattle.script.specs.Commands.{commandOf};
 ghost use Rattle.text.specs.Put.{Put};
 ghost use Rattle.sheet.specs.Sheet.{room, freshSheet, withTable, withGiven, withRun, wrongLine, headed, headingText, afterStart, startText, afterPiece, pieceOf, afterLog, logText, afterEnd, endText, numbersText, resultsText, buildText, readText, diagnoseText, extremesText, questionText, askedText, afterCut, cutText, afterEvent, eventText, afterPlain, plainText, afterWord, wordText, afterLine, lineText};
 
