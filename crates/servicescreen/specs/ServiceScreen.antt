@@ -28,7 +28,7 @@ use Rattle.state.specs.State.{freshOf}
 
 -- ---- an event
 
--- "each accepted event": not refused by 10 or 11; a refused command does not count
+-- "each accepted event": not refused by 10 or 11; levels are accepted also where a command of theirs is refused
 unfoldable pub accepted : State → Event → Bool
 accepted s (Telegram w) = acceptsOf (s .table) w
 accepted s (Levels l) = leb l 7

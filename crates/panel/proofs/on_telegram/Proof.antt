@@ -30,14 +30,14 @@ read-requires c κs = search needs
 received-requires : tie.Need-received-requires
 received-requires c κs = search needs
 
--- the drive that is read is a number
+-- the drive that is read is a number, whatever it is read from
 recorded-requires : tie.Need-recorded-requires
 unfolding markedOf
 recorded-requires c κs =
     let m = c .before .before in
     let b = m .before in
     let s = b .before .before .before .before in
-    rw (c .received .ensures, m .read .ensures) (s .pre .driven, reading-number (s .args .t .now) (b .basis-after .result))
+    rw (c .received .ensures, m .read .ensures) (s .pre .driven, reading-number (s .args .t .now) _)
 
 -- the record is brought up to date before switching and display, which do not look at it
 returns-2 : tie.Need-returns-2
