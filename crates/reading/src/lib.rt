@@ -2,15 +2,19 @@
 // Uses `settings` for the table, and `ssi`, `roundloop`, `measurement` and `analog`, which it hands the settings to.
 ghost use mathlib.Core.Path.{_≡_};
 ghost use Rattle.parameters.specs.Valid.{Valid};
-ghost use Rattle.settings.specs.Settings.{layoutOf};
-ghost use Prim.Native.Nat.{_≤_, _^_};
+ghost use Rattle.measurement.specs.Sound as measurement;
+ghost use Rattle.ssi.specs.Sound.{Sound};
+ghost use Rattle.ssi.specs.Telegram.{modulus};
+ghost use Prim.Native.Nat.{_≤_, _<_, _^_};
 ghost use Rattle.reading.specs.Follow.{countAfter, heldOf, basisAfter};
-ghost use Rattle.reading.specs.Reading.{acceptsOf, directedAt, basisOf, measurementAt, codeAt, codedAt, driveAt, mark, marksOf, markedOf};
+ghost use Rattle.reading.specs.Reading.{acceptsOf, codeAt, codedAt, driveAt, mark, marksOf, markedOf};
+ghost use Rattle.reading.specs.ReadingWay.{basisBy, markedBy};
 use analog::Coded;
 use analog::Drive;
 use measurement::Error;
 use measurement::Measured;
 use measurement::Measurement;
+use measurement::Scaling;
 use settings::Span;
 use ssi::Layout;
 
@@ -52,28 +56,6 @@ pub fn accepts(t: &[i32; 104], telegram: u32) -> bool
     ssi::accepts(settings::layout(t), telegram)
 }
 
-// The position of a telegram after direction.
-fn directed(t: &[i32; 104], l: Layout, telegram: u32) -> u32
-    requires { ⌜ Valid (now t) × (l ≡ layoutOf (now t)) ⌝ }
-    ensures { λ r. ⌜ r ≡ directedAt (now (t .entry)) telegram ⌝ }
-{
-    let p = ssi::position(l, telegram);
-    measurement::directed(settings::direction(t), ssi::width(l), p)
-}
-
-// What a telegram's result starts from without a round loop.
-fn basis_of(t: &[i32; 104], l: Layout, telegram: u32) -> Basis
-    requires { ⌜ Valid (now t) × (l ≡ layoutOf (now t)) ⌝ }
-    ensures { λ r. ⌜ r ≡ basisOf (now (t .entry)) telegram ⌝ }
-{
-    Basis {
-        start: directed(t, l, telegram),
-        last: 0,
-        reported: ssi::error_reported(l, telegram),
-        counted: false,
-    }
-}
-
 // With a round loop, a telegram under error 3: the count stays, and where it was last counted from.
 fn held(b: Basis) -> Basis
     ensures { λ r. ⌜ r ≡ heldOf b ⌝ }
@@ -94,38 +76,47 @@ fn count_after(r: u32, width: u32, b: Basis, p: u32) -> u32
     roundloop::first(r, p)
 }
 
-// What the result of an accepted telegram starts from, behind what the one before it left.
-pub fn basis_after(t: &[i32; 104], b: Basis, telegram: u32) -> Basis
-    requires { ⌜ Valid (now t) ⌝ }
-    ensures { λ r. ⌜ r ≡ basisAfter (now (t .entry)) b telegram ⌝ }
+// What a result starts from, behind what the telegram before left, by the position and whether the error bit reports.
+pub fn basis_by(l: Layout, reverse: u32, r: u32, b: Basis, p: u32, reported: bool) -> Basis
+    requires { ⌜ Sound l × (p < modulus l) ⌝ }
+    ensures { λ n. ⌜ n ≡ basisBy l reverse r b p reported ⌝ }
 {
-    let l = settings::layout(t);
-    let n = basis_of(t, l, telegram);
-    let r = settings::round_loop(t);
+    let width = ssi::width(l);
+    let start = measurement::directed(reverse, width, p);
     if r == 0 {
-        return n;
+        return Basis {
+            start,
+            last: 0,
+            reported,
+            counted: false,
+        };
     }
-    if n.reported {
+    if reported {
         return held(b);
     }
     Basis {
-        start: count_after(r, ssi::width(l), b, n.start),
-        last: n.start,
+        start: count_after(r, width, b, start),
+        last: start,
         reported: false,
         counted: true,
     }
 }
 
-// The result and the error, with the marks of scaling and linearization.
-fn measured(t: &[i32; 104], b: Basis) -> Measurement
+// The same of an accepted telegram.
+pub fn basis_after(t: &[i32; 104], b: Basis, telegram: u32) -> Basis
     requires { ⌜ Valid (now t) ⌝ }
-    ensures { λ r. ⌜ r ≡ measurementAt (now (t .entry)) b ⌝ }
+    ensures { λ r. ⌜ r ≡ basisAfter (now (t .entry)) b telegram ⌝ }
 {
-    measurement::measure(
-        settings::scaling(t),
-        settings::points(t),
-        b.start,
-        b.reported,
+    let l = settings::layout(t);
+    let p = ssi::position(l, telegram);
+    let reported = ssi::error_reported(l, telegram);
+    basis_by(
+        l,
+        settings::direction(t),
+        settings::round_loop(t),
+        b,
+        p,
+        reported,
     )
 }
 
@@ -170,14 +161,13 @@ fn marks(x: Measurement, analog: bool) -> u8
     0
 }
 
-// Result, error, code and drive of what a result starts from, and where a half decided.
-pub fn read(t: &[i32; 104], b: Basis) -> Marked
-    requires { ⌜ Valid (now t) ⌝ }
-    ensures { λ r. ⌜ r ≡ markedOf (now (t .entry)) b ⌝ }
+// Result, error, code and drive of what a result starts from, and where a half decided, by the settings.
+pub fn read_by(s: Scaling, points: &[i32], a: Span, b: Basis) -> Marked
+    requires { ⌜ measurement.Sound s (now points) ⌝ }
+    ensures { λ r. ⌜ r ≡ markedBy s (now (points .entry)) a b ⌝ }
 {
-    let x = measured(t, b);
+    let x = measurement::measure(s, points, b.start, b.reported);
     let m = x.measured;
-    let a = settings::analog_span(t);
     let c = code_of(a, m);
     let drive = driven(a, m, c.code);
     let halves = marks(x, c.half);
@@ -189,4 +179,17 @@ pub fn read(t: &[i32; 104], b: Basis) -> Marked
         drive,
     };
     Marked { reading, halves }
+}
+
+// The same under a table.
+pub fn read(t: &[i32; 104], b: Basis) -> Marked
+    requires { ⌜ Valid (now t) ⌝ }
+    ensures { λ r. ⌜ r ≡ markedOf (now (t .entry)) b ⌝ }
+{
+    read_by(
+        settings::scaling(t),
+        settings::points(t),
+        settings::analog_span(t),
+        b,
+    )
 }

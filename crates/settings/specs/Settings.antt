@@ -11,6 +11,7 @@ use Rattle.ssi.specs.declared.Layout.{Layout}
 use Rattle.switching.specs.declared.Preselection.{Preselection}
 use Rattle.parameters.specs.Slots as slot
 use Rattle.settings.specs.declared.Span.{Span}
+use Rattle.settings.specs.declared.Settings.{Settings}
 use Rattle.settings.specs.declared.Action.{Action}
 use Rattle.settings.specs.declared.Action.the-variants.{None, Reset, Freeze, ClearLocks, ClearExtremes, Teach}
 use Rattle.settings.specs.declared.Config.{Config}
@@ -67,6 +68,10 @@ preselectionOf t k =
 
 unfoldable pub preselectionsOf : List ℤ → List Preselection
 preselectionsOf t = preselectionOf t 0 ∷ preselectionOf t 1 ∷ preselectionOf t 2 ∷ preselectionOf t 3 ∷ []
+
+-- K5: what the way of a telegram takes from a table, beside the points
+abbrev pub settingsOf : List ℤ → Settings
+settingsOf t = record { layout = layoutOf t; scaling = scalingOf t; span = spanOf t; preselections = preselectionsOf t }
 
 -- "Actions": 1 reset, 2 freeze, 3 clear locks, 4 clear least and greatest, 5 to 8 teach preselection 1 to 4; 0 none
 unfoldable pub actionOf : ℕ → Action

@@ -3,7 +3,7 @@
 ghost use mathlib.Core.Path.{_≡_};
 ghost use Prim.Native.Nat.{_<_};
 ghost use lib.ListN.{length};
-ghost use Rattle.settings.specs.Settings.{layoutOf, scalingOf, pointsOf, spanOf, preselectionOf, preselectionsOf, isFreeze, actionOf, configOf, inputAt};
+ghost use Rattle.settings.specs.Settings.{layoutOf, scalingOf, pointsOf, spanOf, preselectionOf, preselectionsOf, settingsOf, isFreeze, actionOf, configOf, inputAt};
 ghost use Rattle.parameters.specs.Slots.{bitsPerTurn};
 use measurement::Scaling;
 use parameters::natural;
@@ -153,6 +153,26 @@ pub fn preselections(t: &[i32; 104]) -> [Preselection; 4]
         preselection(t, 2),
         preselection(t, 3),
     ]
+}
+
+// What the way of a telegram takes from a table, beside the control points.
+pub struct Settings {
+    pub layout: Layout,
+    pub scaling: Scaling,
+    pub span: Span,
+    pub preselections: [Preselection; 4],
+}
+
+// All of it, to be gathered once for many telegrams.
+pub fn gathered(t: &[i32; 104]) -> Settings
+    ensures { λ r. ⌜ r ≡ settingsOf (now (t .entry)) ⌝ }
+{
+    Settings {
+        layout: layout(t),
+        scaling: scaling(t),
+        span: analog_span(t),
+        preselections: preselections(t),
+    }
 }
 
 // The action of a number; what is no action does nothing.

@@ -21,10 +21,10 @@ unfoldable pub xorDown : ℕ → ℕ → ℕ
 xorDown zero t = 0
 xorDown (suc n) t = bitXor t (xorDown n (t / 2))
 
-two-pos : 0 < 2
+pub two-pos : 0 < 2
 two-pos = zero-lt-suc 1
 
-half-lt : (n t : ℕ) → t < 2 ^ suc n → t / 2 < 2 ^ n
+pub half-lt : (n t : ℕ) → t < 2 ^ suc n → t / 2 < 2 ^ n
 half-lt n t h = div-lt-iff-lt-mul two-pos .1 (subst (λ (x : ℕ). t < x) (pow-suc 2 n) h)
 
 pub counted-lt : (k t : ℕ) → grayCounted k t < 2 ^ k
@@ -90,7 +90,7 @@ counted-wide w (suc j) t h =
 too-big : (x : ℕ) → suc (suc x) < 2 → ⊥
 too-big x h = omega arith
 
-small-sum : (x y : ℕ) → x < 2 → y < 2 → (x + y) % 2 ≡ differ x y
+pub small-sum : (x y : ℕ) → x < 2 → y < 2 → (x + y) % 2 ≡ differ x y
 small-sum zero zero h k = refl
 small-sum zero (suc zero) h k = refl
 small-sum zero (suc (suc y)) h k = absurd (too-big y k)

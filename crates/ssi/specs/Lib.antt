@@ -7,4 +7,5 @@ pub mod BuildLaws
 pub mod SoundLaws
 pub mod PartLaws
 pub mod GrayLaws
+pub mod DoublingLaws
 pub mod FieldLaws

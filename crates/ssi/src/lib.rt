@@ -1,5 +1,7 @@
 // An SSI telegram: its position, its error bit and its diagnosis, and the telegram of a position. Bit 1 is the lowest.
 // It uses no other crate.
+pub mod doubling; // doubling.rt: the position in fewer steps, for bursts
+
 ghost use mathlib.Core.Path.{_≡_};
 ghost use mathlib.Core.Bool.{_&&_};
 ghost use Prim.Native.Nat.{_-_, _^_, _≤_, _<_};
