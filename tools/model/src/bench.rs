@@ -6,7 +6,7 @@ use std::ops::Range;
 use crate::analog::Drive;
 use crate::fast::{Panel, Record};
 use crate::log;
-use crate::panel::{Answer, Event, Halves};
+use crate::panel::{Answer, Burst, Event, Extremes, Halves, BURST};
 use crate::panelrun::{self, TABLE_BYTES};
 use crate::rng::Rng;
 use crate::table::{self, slot, Table, SLOTS};
@@ -51,6 +51,61 @@ fn run_once(panel: &mut Panel, events: &[Event], mut sum: u64) -> u64 {
         sum = sum.wrapping_add(part(&panel.step(black_box(*event))));
     }
     sum.wrapping_add(record_part(&panel.record))
+}
+
+/// K5: runs the telegrams of an input through the 64-bit panel again and again, in bursts of up to 1,024;
+/// a sum over all bursts, and the record, least and greatest after each round.
+pub fn sum_of_bursts(input: &[u8], rounds: u64) -> u64 {
+    sum_of(input, rounds, |panel, words| panel.burst(black_box(words)))
+}
+
+/// K5: the same by single steps, each with its answer; summed is the last one of up to 1,024. Where no
+/// telegram is refused, the sum is that of the bursts.
+pub fn sum_of_burst_steps(input: &[u8], rounds: u64) -> u64 {
+    sum_of(input, rounds, |panel, words| {
+        let step = |&word: &u32| black_box(panel.step(Event::Telegram(black_box(word))));
+        Burst { count: words.len(), answer: words.iter().map(step).last().unwrap() }
+    })
+}
+
+/// The sum over the telegrams of an input, up to 1,024 at a time.
+#[inline]
+fn sum_of(input: &[u8], rounds: u64, mut take: impl FnMut(&mut Panel, &[u32]) -> Burst) -> u64 {
+    let table = panelrun::load(&input[..TABLE_BYTES]).unwrap();
+    let words = telegrams(&log::read(&input[TABLE_BYTES..]).events);
+    let mut panel = Panel::new(&table);
+    let mut sum = 0u64;
+    for _ in 0..rounds {
+        for words in words.chunks(BURST) {
+            sum = sum.wrapping_add(burst_part(&take(&mut panel, words)));
+        }
+        sum = sum.wrapping_add(record_part(&panel.record) + extremes_part(&panel.extremes));
+    }
+    sum
+}
+
+/// The telegrams among events.
+fn telegrams(events: &[Event]) -> Vec<u32> {
+    let word = |event: &Event| match *event {
+        Event::Telegram(word) => Some(word),
+        _ => None,
+    };
+    events.iter().filter_map(word).collect()
+}
+
+/// K5: what a burst adds to the sum.
+fn burst_part(Burst { count, answer }: &Burst) -> u64 {
+    raised(answer.result)
+        + 3 * raised(answer.shown)
+        + 13 * u64::from(answer.note)
+        + 17 * halves_part(&answer.halves)
+        + 29 * *count as u64
+}
+
+/// K5: what least and greatest after a round add to the sum; 0 and 0 where there are none.
+fn extremes_part(extremes: &Option<Extremes>) -> u64 {
+    let (least, greatest) = extremes.as_ref().map_or((0, 0), |x| (x.least, x.greatest));
+    31 * raised(least) + 37 * raised(greatest)
 }
 
 /// What an answer adds to the sum.

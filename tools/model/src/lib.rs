@@ -4,6 +4,7 @@
 pub mod analog;
 pub mod answers;
 pub mod bench;
+pub mod bursts;
 pub mod console;
 pub mod coverage;
 pub mod differ;
@@ -14,6 +15,7 @@ pub mod fraction;
 pub mod generate;
 pub mod log;
 pub mod measure;
+pub mod mistaken;
 pub mod modbus;
 pub mod panel;
 pub mod panelrun;

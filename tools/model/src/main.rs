@@ -20,6 +20,8 @@ const USAGE: &str = "usage:
   model record sessions SEED COUNT DIR
   model check ..                   (as record: whether the files are those of the seed)
   model step ROUNDS < input        (a sum over all answers)
+  model bursts ROUNDS < input      (a sum over all bursts of telegrams)
+  model burst-steps ROUNDS < input (the same by single steps)
   model events KIND N > input      (telegrams, levels, ticks, mixed, far_end, middle, near_end
                                    or round_loop)
   model serve ROUNDS < input       (a sum over all replies)
@@ -53,15 +55,14 @@ fn command(words: &[&str]) -> io::Result<bool> {
         }
         ["record", words @ .., folder] => write_record(&recording(words)?, folder),
         ["check", words @ .., folder] => check_record(&recording(words)?, folder),
-        ["step", rounds] => step(number(rounds)?),
+        ["step", rounds] => sum(bench::sum, rounds),
+        ["bursts", rounds] => sum(bench::sum_of_bursts, rounds),
+        ["burst-steps", rounds] => sum(bench::sum_of_burst_steps, rounds),
         ["events", kind, count] if bench::KINDS.contains(kind) => {
             io::stdout().lock().write_all(&bench::input(kind, number(count)? as usize))?;
             Ok(true)
         }
-        ["serve", rounds] => {
-            println!("{}", serve::sum(&input()?, number(rounds)?));
-            Ok(true)
-        }
+        ["serve", rounds] => sum(serve::sum, rounds),
         ["frames", kind, count] if serve::KINDS.contains(kind) => {
             io::stdout().lock().write_all(&serve::input(kind, number(count)? as usize))?;
             Ok(true)
@@ -79,8 +80,9 @@ fn run() -> io::Result<bool> {
     Ok(true)
 }
 
-fn step(rounds: u64) -> io::Result<bool> {
-    println!("{}", bench::sum(&input()?, rounds));
+/// Prints a sum over so many rounds of an input.
+fn sum(sum: fn(&[u8], u64) -> u64, rounds: &str) -> io::Result<bool> {
+    println!("{}", sum(&input()?, number(rounds)?));
     Ok(true)
 }
 

@@ -1,7 +1,7 @@
 //! The panel as a Modbus RTU slave: its start (33) and its answer to a frame (20, exceptions 1 to 3).
 //! Paper 02: K2.
 
-use crate::panel::{self, Answer, Event, State};
+use crate::panel::{self, Answer, Burst, Event, State};
 use crate::table::{self, slot, LoadRefusal, Table, SLOTS};
 
 /// First register of the shown value.
@@ -127,6 +127,13 @@ impl Slave {
         let (after, answer) = panel::step(&self.table, &self.state, event);
         self.state = after;
         answer
+    }
+
+    /// K5: takes a burst.
+    pub fn burst(&mut self, words: &[u32]) -> Burst {
+        let (after, burst) = panel::burst(&self.table, &self.state, words);
+        self.state = after;
+        burst
     }
 
     /// Takes a frame.

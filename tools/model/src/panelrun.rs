@@ -78,8 +78,13 @@ pub fn line(number: u64, event: Event, answer: &Answer) -> String {
         Event::Levels(_) => 'I',
         Event::Tick(_) => 'C',
     };
+    format!("{number} {kind} {}\n", fields(answer))
+}
+
+/// The fields of an answer, from result to note.
+pub fn fields(answer: &Answer) -> String {
     let outs: String = answer.outputs.iter().map(|&high| if high { '1' } else { '0' }).collect();
     let analog = answer.code.map_or("off".to_string(), |code| code.to_string());
     let Answer { result, shown, error, note, .. } = answer;
-    format!("{number} {kind} {result} {shown} {error} {outs} {analog} {note}\n")
+    format!("{result} {shown} {error} {outs} {analog} {note}")
 }

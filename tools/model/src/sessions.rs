@@ -1,8 +1,10 @@
 //! Recorded sessions of console: one text with what the model writes for it, and a remark over each
 //! session that says what it is for.
 
+use crate::bursts;
 use crate::console::Console;
 use crate::differ::Counts;
+use crate::generate::bursts::Long;
 use crate::generate::sessions::{Size, Writer};
 use crate::record::Recording;
 use crate::rng::Rng;
@@ -19,18 +21,25 @@ pub fn recording(seed: u64, count: u64) -> Recording {
     let mut recording = Recording::new("sessions");
     let mut console = Console::default();
     let mut met = Tally::default();
+    let mut purposes = Vec::new();
     for index in 0..count {
-        let purpose = purpose(index, count, &met);
+        let purpose = purpose(index, count, &met, &purposes);
         let (text, output, seen) = session(seed, index, count, &purpose, &mut console);
         recording.input.extend(text);
         recording.output.push_str(&output);
         met.add(&seen);
+        purposes.push(purpose);
     }
     recording
 }
 
-/// The first of the names that the sessions before met least; the last name is the last session's.
-fn purpose(index: u64, count: u64, met: &Tally) -> String {
+/// The first of the names that the sessions before met least; the last name is the last session's. K5:
+/// a kind of burst counts as met once a session was for it.
+fn purpose(index: u64, count: u64, met: &Tally, purposes: &[String]) -> String {
+    let times = |name: &String| match has_its_own(name) && !purposes.contains(name) {
+        true => 0,
+        false => met.of(name),
+    };
     let mut names = tally::names();
     let last = names.pop().unwrap();
     let chosen = match index {
@@ -39,10 +48,15 @@ fn purpose(index: u64, count: u64, met: &Tally) -> String {
         _ => names
             .iter()
             .filter(|name| !before_a_start(name))
-            .min_by_key(|name| met.of(name))
+            .min_by_key(|&name| times(name))
             .unwrap(),
     };
     chosen.clone()
+}
+
+/// K5: a kind of burst; one of 1,025 telegrams is met where one of them is refused.
+fn has_its_own(name: &str) -> bool {
+    bursts::NAMES.contains(&name) && name != "burst of 1025"
 }
 
 /// Met at the head of a text alone.
@@ -67,6 +81,7 @@ fn session(
     let mut rng = Rng::for_case(seed, index);
     for _ in 0..TRIES {
         let mut writer = Writer::new(&mut rng, Size::Short, console.clone());
+        writer.long = long(purpose);
         writer.put(&format!("# {}. {purpose}", index + 1));
         if index == 0 {
             writer.before_a_start();
@@ -86,9 +101,19 @@ fn session(
     panic!("no session for {purpose}");
 }
 
+/// K5: the long burst that a session is for; no other session has one.
+fn long(purpose: &str) -> Option<Long> {
+    match purpose {
+        bursts::FULL => Some(Long::Full),
+        bursts::FULL_REFUSED => Some(Long::FullRefused),
+        bursts::OVER => Some(Long::Over),
+        _ => None,
+    }
+}
+
 fn longest(purpose: &str) -> usize {
-    let long = ["1024", "300", "256", "200"].iter().any(|length| purpose.contains(length));
-    if long {
+    let lengths = ["1024", "1025", "300", "256", "200"];
+    if lengths.iter().any(|length| purpose.contains(length)) {
         LONG_BYTES
     } else {
         BYTES

@@ -3,14 +3,16 @@
 use std::collections::BTreeMap;
 use std::fmt;
 
+use crate::bursts;
 use crate::console::{self, Command, Console, Said, Wrong, LINE};
 use crate::differ::Counts;
 use crate::drives::{self, Mistake, Others};
 use crate::fraction::Fraction;
 use crate::measure;
+use crate::mistaken;
 use crate::modbus::{Addressee, Answered, Exception, Fault, Outcome, Place, Slave};
-use crate::panel::{self, Event, Halves};
-use crate::table::{self, slot, Action};
+use crate::panel::{self, Burst, Event, Halves, State};
+use crate::table::{self, slot, Action, Table};
 use crate::turntable::{self, Move};
 
 /// Counts by name.
@@ -34,9 +36,18 @@ pub fn names() -> Vec<String> {
     names.extend(RECORDS.map(String::from));
     let told = drives::ALL.into_iter().filter(|&mistake| mistake != Mistake::TickLeftOut);
     names.extend(told.map(Mistake::name));
+    names.extend(bursts::NAMES.map(String::from));
+    names.extend(bursts::BESIDE.map(bursts::ahead));
+    names.extend(bursts::BESIDE.map(bursts::behind));
+    names.extend(mistaken::ALL.map(mistaken::Mistake::name));
     names.extend(Wrong::ALL.map(|wrong| format!("line answered: {}", wrong.words())));
     names.extend(LINES.map(String::from));
     names
+}
+
+/// K5: names of long lines that random texts alone are to meet.
+pub fn rare() -> Vec<String> {
+    bursts::RARE.map(String::from).into()
 }
 
 const FRAMES: [&str; 22] = [
@@ -78,7 +89,7 @@ const EXCEPTIONS: [&str; 10] = [
 ];
 
 /// K7: what leads to the marks that are asked for.
-const HALVES: [&str; 17] = [
+const HALVES: [&str; 20] = [
     "halves where no panel runs yet",
     "halves before the first event",
     "halves with the mark of scaling",
@@ -96,6 +107,9 @@ const HALVES: [&str; 17] = [
     "halves gone by a start",
     "halves kept over a frame",
     "halves kept over a refused start",
+    "halves of a burst",
+    "halves gone by a burst",
+    "halves gone by a burst that takes none",
 ];
 
 /// K4: what happens to a panel with a round loop.
@@ -112,7 +126,7 @@ const ROUND_LOOPS: [&str; 9] = [
 ];
 
 /// K6: what is asked of the record, and what led to it.
-const RECORDS: [&str; 23] = [
+const RECORDS: [&str; 25] = [
     "record where no panel runs yet",
     "record before the first event",
     "record empty",
@@ -136,6 +150,8 @@ const RECORDS: [&str; 23] = [
     "record kept over a refused start",
     "record emptied by a write",
     "record emptied by a start",
+    "record widened on the way of a burst",
+    "record kept over a burst that takes none",
 ];
 
 const LINES: [&str; 7] = [
@@ -182,6 +198,13 @@ struct Run {
     led: Vec<&'static str>,
     /// K6: the record by mistaken rules.
     others: Option<Others>,
+    /// K5: the states around the telegrams that the last burst takes.
+    way: Vec<State>,
+    /// K5: what the last event is beside a burst, and whether it is one.
+    beside: Vec<&'static str>,
+    burst: bool,
+    /// K5: the console by mistaken rules.
+    mistaken: mistaken::Others,
 }
 
 impl Tally {
@@ -191,6 +214,10 @@ impl Tally {
 
     pub fn count(&mut self, name: impl Into<String>) {
         *self.0.entry(name.into()).or_default() += 1;
+    }
+
+    fn count_all(&mut self, names: &[&str]) {
+        names.iter().for_each(|&name| self.count(name));
     }
 
     fn count_if(&mut self, met: bool, name: &str) {
@@ -212,7 +239,9 @@ impl Tally {
                 self.count_if(*number == 1 && run.high.is_some(), "event 1 after a write");
                 self.see_wires(run, before, after);
                 self.see_round_loop(run, before, said, after);
+                self.see_beside(run, before, said, after);
             }
+            Said::Burst(burst) => self.see_burst(run, line, before, burst),
             Said::Frame(answered) => {
                 let (Some(before), Some(after)) = (&before.panel, &after.panel) else {
                     unreachable!()
@@ -224,6 +253,9 @@ impl Tally {
         }
         self.see_marks(run, line, before, said, after);
         self.see_record(run, line, before, said, after);
+        for mistake in run.mistaken.see(line, before, said, after) {
+            self.count(mistake.name());
+        }
     }
 
     /// K7: what the marks are where they are asked for, and what led to them.
@@ -249,7 +281,7 @@ impl Tally {
                 let asked = console::command(line) == Ok(Command::Halves);
                 self.count_if(asked && *wrong == Wrong::NoPanel, "halves where no panel runs yet");
             }
-            Said::Event(..) | Said::Frame(_) | Said::Start(_) => {
+            Said::Event(..) | Said::Burst(_) | Said::Frame(_) | Said::Start(_) => {
                 run.fate = fate(before, said, after);
             }
             Said::Record(_) | Said::Nothing => {}
@@ -279,9 +311,9 @@ impl Tally {
                 let asked = console::command(line) == Ok(Command::Record);
                 self.count_if(asked && *wrong == Wrong::NoPanel, "record where no panel runs yet");
             }
-            Said::Event(..) | Said::Frame(_) | Said::Start(_) => {
-                run.led = led(before, said, after);
-                run.others = others(run.others.take(), before, said, after);
+            Said::Event(..) | Said::Burst(_) | Said::Frame(_) | Said::Start(_) => {
+                run.led = led(before, said, after, &run.way);
+                run.others = others(run.others.take(), before, said, after, &run.way);
             }
             Said::Halves(_) | Said::Nothing => {}
         }
@@ -318,8 +350,51 @@ impl Tally {
             Ok(Command::Blank) => self.count("line: blank"),
             Ok(Command::Remark) => self.count("line: remark"),
             Ok(Command::Frame(frame)) => self.count_if(frame.len() == 300, "frame of 300 bytes"),
+            Ok(Command::Burst(_)) => {
+                let none = *said == Said::Wrong(Wrong::NoPanel);
+                self.count_if(none, "burst where no panel runs yet");
+            }
             _ => {}
         }
+        if line.len() > LINE {
+            self.count_all(&bursts::long_line(line, said));
+        }
+    }
+
+    /// K5: how a burst ends, what happens on its way, and what comes right before it.
+    fn see_burst(&mut self, run: &mut Run, line: &[u8], before: &Console, burst: &Burst) {
+        let Some(panel) = &before.panel else { unreachable!() };
+        let table = &panel.table;
+        let words = bursts::telegrams(line);
+        self.count("bursts");
+        self.count_all(&bursts::extent(table, &words, burst));
+        run.way = bursts::way(panel, &words[..burst.count]);
+        if burst.count == 0 {
+            return;
+        }
+        self.count_all(&bursts::on_its_way(table, &run.way));
+        if table.counts() {
+            let steps = run.way.windows(2).filter(|pair| pair[1].error != 3);
+            steps.for_each(|pair| self.see_counted(run, table, &pair[0], &pair[1]));
+        }
+        run.beside.iter().for_each(|beside| self.count(bursts::ahead(beside)));
+        run.beside.clear();
+        run.burst = true;
+    }
+
+    /// K5: what an event is beside a burst.
+    fn see_beside(&mut self, run: &mut Run, before: &Console, said: &Said, after: &Console) {
+        let (Some(old), Some(new), Said::Event(_, event, answer)) =
+            (&before.panel, &after.panel, said)
+        else {
+            return;
+        };
+        let beside = bursts::beside(old, *event, answer, new);
+        if run.burst {
+            beside.iter().for_each(|beside| self.count(bursts::behind(beside)));
+        }
+        run.beside = beside;
+        run.burst = false;
     }
 
     fn see_start(&mut self, run: &mut Run, before: &Console, refusal: Option<u8>) {
@@ -361,30 +436,32 @@ impl Tally {
                 let above = turntable::above_z(&before.table, &before.state);
                 self.count_if(above, "round loop: reset with p above Z");
             }
-            Event::Telegram(_) if after.state.error != 3 => self.see_counted(run, before, after),
+            Event::Telegram(_) if after.state.error != 3 => {
+                self.see_counted(run, &after.table, &before.state, &after.state);
+            }
             _ => {}
         }
     }
 
     /// K4: what a telegram without error 3 does to the count; a refused one leaves it.
-    fn see_counted(&mut self, run: &mut Run, before: &Slave, after: &Slave) {
-        let (from, Some(to)) = (before.state.unrolled, after.state.unrolled) else {
+    fn see_counted(&mut self, run: &Run, table: &Table, before: &State, after: &State) {
+        let (from, Some(to)) = (before.unrolled, after.unrolled) else {
             return;
         };
         let Some(from) = from else {
-            let count = |place| measure::count(&after.table, place);
-            let without = run.place.map(|place| measure::unrolled(&after.table, Some(place), to));
+            let count = |place| measure::count(table, place);
+            let without = run.place.map(|place| measure::unrolled(table, Some(place), to));
             let other = without.is_some_and(|place| count(place) != count(to));
             self.count_if(other, "round loop: another count than without the write before");
             return;
         };
-        let moved = turntable::moved(&after.table, from, to);
+        let moved = turntable::moved(table, from, to);
         let crossed = matches!(moved, Move::Forward | Move::Backward);
         let half = matches!(moved, Move::HalfTurn(_));
         self.count_if(moved == Move::Forward, "round loop: encoder's end crossed forward");
         self.count_if(moved == Move::Backward, "round loop: encoder's end crossed backward");
         self.count_if(half, "round loop: exactly half a turn");
-        let behind = before.state.error == 3;
+        let behind = before.error == 3;
         self.count_if(crossed && behind, "round loop: error 3 where the end is crossed");
     }
 
@@ -428,6 +505,8 @@ impl Tally {
                 run.written.push(slot);
                 run.high = Some(before.state.levels);
                 run.place = before.state.unrolled;
+                run.beside.clear();
+                run.burst = false;
                 run.stored &= slot != slot::OFFSET;
             }
             Outcome::Refused(Addressee::This, exception) => self.see_exception(line, exception),
@@ -513,8 +592,8 @@ impl Counts for Tally {
 
 impl fmt::Display for Tally {
     fn fmt(&self, f: &mut fmt::Formatter) -> fmt::Result {
-        let first = ["sessions", "lines", "events", "frames"].map(String::from);
-        for name in first.into_iter().chain(names()) {
+        let first = ["sessions", "lines", "events", "bursts", "frames"].map(String::from);
+        for name in first.into_iter().chain(names()).chain(rare()) {
             writeln!(f, "{name}: {}", self.of(&name))?;
         }
         Ok(())
@@ -526,6 +605,7 @@ fn fate(before: &Console, said: &Said, after: &Console) -> Option<&'static str> 
     let [had, has] = [before, after].map(|console| console.halves != Halves::default());
     match said {
         Said::Event(_, Event::Levels(_), _) if has => Some("halves of a reset"),
+        Said::Burst(_) if has => Some("halves of a burst"),
         _ if !had => None,
         Said::Frame(_) if has => Some("halves kept over a frame"),
         Said::Start(_) if has => Some("halves kept over a refused start"),
@@ -539,14 +619,17 @@ fn fate(before: &Console, said: &Said, after: &Console) -> Option<&'static str> 
             Event::Levels(_) => "halves gone by levels without a reset",
             Event::Tick(_) => "halves gone by a tick",
         }),
+        Said::Burst(burst) if burst.count == 0 => Some("halves gone by a burst that takes none"),
+        Said::Burst(_) => Some("halves gone by a burst"),
         Said::Frame(_) => Some("halves gone by a write"),
         Said::Start(_) => Some("halves gone by a start"),
         _ => None,
     }
 }
 
-/// K6: what an event, a frame or a start did to the record, where it was not empty; a clear anyway.
-fn led(before: &Console, said: &Said, after: &Console) -> Vec<&'static str> {
+/// K6: what an event, a burst on its way, a frame or a start did to the record, where it was not empty;
+/// a clear anyway.
+fn led(before: &Console, said: &Said, after: &Console, way: &[State]) -> Vec<&'static str> {
     let (Some(old), Some(new)) = (&before.panel, &after.panel) else {
         return Vec::new();
     };
@@ -559,6 +642,10 @@ fn led(before: &Console, said: &Said, after: &Console) -> Vec<&'static str> {
             Event::Levels(levels) => led_by_levels(old, levels, answer.note, new),
             Event::Tick(_) => some(had, "record kept over a tick"),
         },
+        Said::Burst(burst) if burst.count == 0 => {
+            some(had, "record kept over a burst that takes none")
+        }
+        Said::Burst(_) => some(widened(way), "record widened on the way of a burst"),
         Said::Frame(answered) => match answered.outcome {
             Outcome::Written(..) => some(had, "record emptied by a write"),
             _ => some(had, "record kept over a frame"),
@@ -567,6 +654,12 @@ fn led(before: &Console, said: &Said, after: &Console) -> Vec<&'static str> {
         Said::Start(_) => some(had, "record kept over a refused start"),
         _ => Vec::new(),
     }
+}
+
+/// K6: whether telegrams ahead of the last one changed the record.
+fn widened(way: &[State]) -> bool {
+    let ahead = &way[..way.len() - 1];
+    ahead.windows(2).any(|pair| pair[0].driven != pair[1].driven)
 }
 
 /// K6: what accepted levels did to the record.
@@ -593,9 +686,15 @@ fn led_by_levels(old: &Slave, levels: u8, note: u8, new: &Slave) -> Vec<&'static
     names.into_iter().filter(|(met, _)| *met).map(|(_, name)| name).collect()
 }
 
-/// K6: the record by mistaken rules after an event, a frame or a start; where none are known yet, from
-/// the running panel on.
-fn others(known: Option<Others>, before: &Console, said: &Said, after: &Console) -> Option<Others> {
+/// K6: the record by mistaken rules after an event, each telegram of a burst, a frame or a start; where
+/// none are known yet, from the running panel on.
+fn others(
+    known: Option<Others>,
+    before: &Console,
+    said: &Said,
+    after: &Console,
+    way: &[State],
+) -> Option<Others> {
     let (old, new) = (before.panel.as_ref(), after.panel.as_ref()?);
     let known = known.or(old.map(|panel| Others::new(&panel.table, &panel.state)));
     let fresh = Others::new(&new.table, &new.state);
@@ -606,6 +705,11 @@ fn others(known: Option<Others>, before: &Console, said: &Said, after: &Console)
         Said::Start(None) => return Some(fresh),
         Said::Event(_, event, answer) => {
             others.see(&old.table, &old.state, *event, &new.state, answer.note);
+        }
+        Said::Burst(_) => {
+            let word = |state: &State| Event::Telegram(state.telegram.unwrap());
+            way.windows(2)
+                .for_each(|pair| others.see(&old.table, &pair[0], word(&pair[1]), &pair[1], 0));
         }
         Said::Frame(answered) => {
             if let Outcome::Written(..) = answered.outcome {

@@ -1,5 +1,5 @@
 //! console's lines, by request K2: words, numbers, messages and what a start and a write leave.
-//! K7: the marks that it prints; K6: the record.
+//! K7: the marks that it prints; K6: the record. K5's bursts are in `bursts.rs`.
 
 use model::console::{self, Wrong};
 
@@ -58,7 +58,8 @@ fn lines_that_are_none() {
 
 #[test]
 fn messages_of_halves() {
-    let words = "? no such word; the words are node, slot, start, halves, record, t, i, c and f\n";
+    let words =
+        "? no such word; the words are node, slot, start, halves, record, t, b, i, c and f\n";
     assert_eq!(said(b"x"), words);
     assert_eq!(said(b"halves 1"), "? halves takes nothing\n");
     assert_eq!(run("halves\n"), "? no panel runs yet; start one\n");
@@ -113,9 +114,10 @@ fn a_frame_has_at_most_300_bytes() {
 
 #[test]
 fn before_the_first_start() {
-    let text = "t 5\ni 8\nc 1\nf\nt x\nf 1\n#\n";
+    let text = "t 5\ni 8\nc 1\nf\nb 5\nt x\nf 1\nb x\n#\n";
     let none = message(10);
-    assert_eq!(run(text), format!("{none}{none}{none}{none}{}{}", message(6), message(9)));
+    let wrong = [message(6), message(9), message(13)].concat();
+    assert_eq!(run(text), format!("{}{wrong}", none.repeat(5)));
     // A refused start starts nothing.
     assert_eq!(run("node 0\nstart\nt 5\n"), format!("start 33 0\n{none}"));
     let asked = "halves\nhalves 1\nnode 0\nstart\nhalves\n";

@@ -1,5 +1,7 @@
 //! Random texts of console: what they meet, and that they are the same from the same seed.
 
+use model::bursts;
+use model::console;
 use model::differ::{console_case, Counts};
 use model::drives::Mistake;
 use model::generate::sessions;
@@ -12,6 +14,22 @@ fn sessions_meet_every_name() {
     let mut met = Tally::default();
     (0..800).for_each(|index| met.add(&console_case(SEED, index).met));
     assert_eq!(met.missing(), Vec::<String>::new());
+}
+
+#[test]
+fn sessions_meet_the_rare_names() {
+    let mut met = Tally::default();
+    (0..1_600).for_each(|index| met.add(&console_case(SEED, index).met));
+    let unmet = |name: &String| met.of(name) == 0;
+    assert_eq!(tally::rare().into_iter().filter(unmet).collect::<Vec<_>>(), Vec::<String>::new());
+}
+
+#[test]
+fn long_bursts_are_rare() {
+    let long = |line: &[u8]| bursts::telegrams(line).len() >= 1_000;
+    let texts = (0..800).map(|index| sessions::text(SEED, index).0);
+    let count = texts.filter(|text| console::lines(text).any(long)).count();
+    assert!((5..=20).contains(&count), "{count}");
 }
 
 #[test]

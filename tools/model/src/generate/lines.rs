@@ -1,11 +1,11 @@
 //! Random lines of console: good ones in many spellings, and ones that are none.
 
-use crate::console::{self, LINE};
+use crate::console::{self, BURST_LINE, LINE};
 use crate::panel::Event;
 use crate::rng::Rng;
 
 /// Lines that are none whatever runs.
-const WRONG: [&str; 75] = [
+const WRONG: [&str; 86] = [
     "x",
     "Start",
     "START",
@@ -17,6 +17,9 @@ const WRONG: [&str; 75] = [
     "F 01",
     "I 1",
     "C 1",
+    "B 1",
+    "bb 1",
+    "b1",
     " #",
     " # t 5",
     "\t",
@@ -70,6 +73,14 @@ const WRONG: [&str; 75] = [
     "t g",
     "t 1 2",
     "t -1",
+    "b 123456789",
+    "b 0x1",
+    "b g",
+    "b 1 g 2",
+    "b -1",
+    "b 1,2",
+    "b\t1",
+    "b 1\t2",
     "i",
     "i 256",
     "i -1",
@@ -107,16 +118,18 @@ pub fn spelled(rng: &mut Rng, words: &[String]) -> Vec<u8> {
 /// The words of an event.
 pub fn event(rng: &mut Rng, event: Event) -> Vec<String> {
     match event {
-        Event::Telegram(word) => {
-            let digits = match rng.below(4) {
-                0 => format!("{word:x}"),
-                1 => format!("{word:08X}"),
-                _ => format!("{word:X}"),
-            };
-            vec!["t".into(), digits]
-        }
+        Event::Telegram(word) => vec!["t".into(), digits(rng, word)],
         Event::Levels(levels) => vec!["i".into(), levels.to_string()],
         Event::Tick(ms) => vec!["c".into(), ms.to_string()],
+    }
+}
+
+/// A telegram by 1 to 8 hex digits.
+pub fn digits(rng: &mut Rng, word: u32) -> String {
+    match rng.below(4) {
+        0 => format!("{word:x}"),
+        1 => format!("{word:08X}"),
+        _ => format!("{word:X}"),
     }
 }
 
@@ -159,6 +172,7 @@ fn torn(rng: &mut Rng) -> Vec<u8> {
         "node 1",
         "slot 12 0",
         "t 1F",
+        "b 1F 20",
         "i 1",
         "c 10",
         "f 01 03 00 00 00 02 C4 0B",
@@ -179,15 +193,19 @@ fn torn(rng: &mut Rng) -> Vec<u8> {
     line
 }
 
-/// A line of about 1,024 bytes, or far more: good, blank, a remark or none, with 0 to 2 carriage returns.
+/// A line of about 1,024 bytes, with `b` 10,240 too, or far more: good, blank, a remark or none, with 0
+/// to 2 carriage returns.
 fn around_the_longest(rng: &mut Rng) -> Vec<u8> {
     let mut line: Vec<u8> = rng
-        .pick(&["c 5", "i 1", "", "#", "x", "f", "node 1", "start 1", "halves", "record"])
+        .pick(&[
+            "c 5", "i 1", "", "#", "x", "f", "node 1", "start 1", "halves", "record", "b 1", "bb",
+        ])
         .into();
     let filler = if line == b"#" || line == b"x" { rng.pick(b" x#") } else { b' ' };
+    let longest = if line == b"b 1" { rng.pick(&[LINE, BURST_LINE]) } else { LINE };
     let length = match rng.below(8) {
-        0 => rng.between(1_100, 9_000) as usize,
-        _ => (LINE as i64 + rng.between(-2, 2)) as usize,
+        0 => rng.between(1_100, 12_000) as usize,
+        _ => (longest as i64 + rng.between(-2, 2)) as usize,
     };
     line.resize(length, filler);
     if rng.chance(20) && line[0] != b'#' {

@@ -37,6 +37,24 @@ pub fn events(
     (0..count).map(&mut next).collect()
 }
 
+/// K5: telegrams of a table from a state on, none refused.
+pub fn telegrams(
+    rng: &mut Rng,
+    wish: &Wish,
+    table: &Table,
+    state: State,
+    anchors: &[i64],
+    count: usize,
+) -> Vec<u32> {
+    let mut walk = Walk { refused: 0, ..Walk::new(rng, wish, table, state, anchors) };
+    let mut next = |_| {
+        let word = walk.telegram();
+        walk.state = panel::step(table, &walk.state, Event::Telegram(word)).0;
+        word
+    };
+    (0..count).map(&mut next).collect()
+}
+
 /// A random walk of events.
 struct Walk<'a> {
     rng: &'a mut Rng,
@@ -98,8 +116,7 @@ impl<'a> Walk<'a> {
             self.word()
         };
         if self.table.resolution < 32 && self.rng.chance(self.refused) {
-            let bit = self.rng.ends(self.table.resolution.into(), 31);
-            return word | 1 << bit;
+            return refused(self.rng, self.table, word);
         }
         word
     }
@@ -197,6 +214,14 @@ impl<'a> Walk<'a> {
             _ => self.rng.ends(0, 65_535),
         };
         ms.clamp(0, 65_535) as u16
+    }
+}
+
+/// A telegram with a bit above N, where there is room for one.
+pub fn refused(rng: &mut Rng, table: &Table, word: u32) -> u32 {
+    match table.resolution {
+        32 => word,
+        resolution => word | 1 << rng.ends(resolution.into(), 31),
     }
 }
 

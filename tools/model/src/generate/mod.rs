@@ -1,6 +1,7 @@
 //! Random inputs of panelrun and texts of console from a seed.
 
 pub mod borders;
+pub mod bursts;
 pub mod faults;
 pub mod frames;
 pub mod lines;

@@ -1,5 +1,6 @@
-//! Random texts of console: tables, starts, events, frames and lines that are none.
+//! Random texts of console: tables, starts, events, bursts, frames and lines that are none.
 
+use super::bursts::{self, Long, LONG};
 use super::tables::{self, Draft};
 use super::theme::{self, Theme, Wish};
 use super::{faults, frames, lines, logs};
@@ -8,6 +9,9 @@ use crate::modbus::{Place, Slave};
 use crate::panel::{self, Event};
 use crate::rng::Rng;
 use crate::table::{self, slot, Action, SLOTS, Z};
+
+/// K5: one of so many texts has a long burst, the kinds in turn.
+const LONG_EVERY: u64 = 40;
 
 /// How long the sessions of a text are.
 #[derive(Clone, Copy, Debug, PartialEq, Eq)]
@@ -22,6 +26,8 @@ pub enum Size {
 pub struct Writer<'a> {
     rng: &'a mut Rng,
     size: Size,
+    /// K5: a long burst that is still to come.
+    pub long: Option<Long>,
     pub text: Vec<u8>,
     pub console: Console,
 }
@@ -31,6 +37,7 @@ pub fn text(seed: u64, index: u64) -> (Vec<u8>, u64) {
     let mut rng = Rng::for_case(seed, index);
     let sessions = [1, 2, 3, 6][rng.weighted(&[60, 25, 10, 5])];
     let mut writer = Writer::new(&mut rng, Size::Long, Console::default());
+    writer.long = long(index);
     if writer.rng.chance(20) {
         writer.before_a_start();
     }
@@ -41,9 +48,17 @@ pub fn text(seed: u64, index: u64) -> (Vec<u8>, u64) {
     (writer.text, sessions)
 }
 
+/// K5: the long burst of a text, where it has one.
+fn long(index: u64) -> Option<Long> {
+    match index % LONG_EVERY {
+        0 => Some(LONG[(index / LONG_EVERY) as usize % LONG.len()]),
+        _ => None,
+    }
+}
+
 impl<'a> Writer<'a> {
     pub fn new(rng: &'a mut Rng, size: Size, console: Console) -> Writer<'a> {
-        Writer { rng, size, text: Vec::new(), console }
+        Writer { rng, size, long: None, text: Vec::new(), console }
     }
 
     /// One session: a table, its start, and what follows up to the next.
@@ -65,6 +80,7 @@ impl<'a> Writer<'a> {
         let most = if self.size == Size::Long { 12 } else { 4 };
         for _ in 0..self.rng.between(1, most) {
             self.events(&wish, &draft.anchors);
+            self.long_burst(&wish, &draft.anchors);
             self.frames();
             if self.rng.chance(25) {
                 self.odd();
@@ -82,7 +98,7 @@ impl<'a> Writer<'a> {
     /// Events, frames and questions before the first start.
     pub fn before_a_start(&mut self) {
         for _ in 0..self.rng.between(1, 5) {
-            match self.rng.below(8) {
+            match self.rng.below(10) {
                 0 => self.put("t 5"),
                 1 => self.put("i 8"),
                 2 => self.put("c 100"),
@@ -90,6 +106,8 @@ impl<'a> Writer<'a> {
                 4 => self.put("f"),
                 5 => self.put_question("halves"),
                 6 => self.put_question("record"),
+                7 => self.put_burst(&[]),
+                8 => self.put_burst(&[5, 6]),
                 _ => self.odd(),
             }
         }
@@ -169,7 +187,43 @@ impl<'a> Writer<'a> {
             if self.rng.chance(4) {
                 self.turn_all_inputs();
             }
+            if self.rng.chance(12) {
+                self.burst(wish, anchors);
+            }
         }
+    }
+
+    /// K5: a short burst.
+    fn burst(&mut self, wish: &Wish, anchors: &[i64]) {
+        let Some(panel) = &self.console.panel else {
+            return;
+        };
+        let most = if self.size == Size::Long { 40 } else { 12 };
+        let telegrams = bursts::short(self.rng, wish, panel, anchors, most);
+        self.put_burst(&telegrams);
+    }
+
+    fn put_burst(&mut self, telegrams: &[u32]) {
+        let words = match self.rng.chance(5) {
+            true => bursts::misspelled(self.rng, telegrams),
+            false => bursts::spelled(self.rng, telegrams),
+        };
+        let line = lines::spelled(self.rng, &words);
+        self.put_bytes(&line);
+        self.ask_after_a_burst();
+    }
+
+    /// K5: the long burst, where one is to come; of one digit each in a short session.
+    fn long_burst(&mut self, wish: &Wish, anchors: &[i64]) {
+        let (Some(panel), Some(kind)) = (&self.console.panel, self.long) else {
+            return;
+        };
+        let one_digit = self.size == Size::Short || self.rng.chance(50);
+        let telegrams = bursts::long(self.rng, kind, wish, panel, anchors, one_digit);
+        let line = bursts::line(self.rng, kind, &telegrams);
+        self.put_bytes(&line);
+        self.ask_after_a_burst();
+        self.long = None;
     }
 
     /// K6: a clear and a reset may meet.
@@ -239,7 +293,17 @@ impl<'a> Writer<'a> {
     /// Asks for the marks (K7) after a third of the events, frames and starts, for the record (K6) after
     /// a fifth.
     fn ask(&mut self) {
-        for (question, percent) in [("halves", 33), ("record", 20)] {
+        self.ask_for(33, 20);
+    }
+
+    /// K5: more often after a burst.
+    fn ask_after_a_burst(&mut self) {
+        self.ask_for(50, 40);
+    }
+
+    /// Asks for the marks and for the record in so many of 100 cases.
+    fn ask_for(&mut self, halves: u64, record: u64) {
+        for (question, percent) in [("halves", halves), ("record", record)] {
             if self.rng.chance(percent) {
                 self.put_question(question);
             }
