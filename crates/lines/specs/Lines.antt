@@ -89,24 +89,29 @@ analogText (Milliamps x) code = textOf code
 abbrev pub codeIn : Answer → ℤ
 codeIn a = a .state .live .reading .code
 
--- event kind result shown error outs analog note
-unfoldable pub eventLine : ℕ → Event → Answer → List ℕ
-eventLine count e a =
-    lineWith
-    (number count
-    ∷ (kindLetter e ∷ [])
-    ∷ textOf (a .result)
+-- result shown error outs analog note
+abbrev pub answerFields : Answer → List (List ℕ)
+answerFields a =
+    textOf (a .result)
     ∷ textOf (a .shown)
     ∷ number (errorNumber (a .error))
     ∷ outsText (a .outputs)
     ∷ analogText (a .drive) (codeIn a)
     ∷ number (a .note)
-    ∷ [])
+    ∷ []
+
+-- event kind result shown error outs analog note
+unfoldable pub eventLine : ℕ → Event → Answer → List ℕ
+eventLine count e a = lineWith (number count ∷ (kindLetter e ∷ []) ∷ answerFields a)
 
 -- "Events are counted from 1, refused ones too": the count after one more event. It stays at the largest number that is printed,
 -- 10 ^ 18 − 1, which no run reaches
 unfoldable pub nextCount : ℕ → ℕ
 nextCount n = cond (ltb n largest) (n + 1) largest
+
+-- K5, "Each one taken is an event of its own": the count after k events more (`more-is-next` in CountLaws)
+unfoldable pub countMore : ℕ → ℕ → ℕ
+countMore n k = cond (ltb (n + k) largest) (n + k) largest
 
 -- ---- the lines of a refused table and of the end
 

@@ -12,9 +12,9 @@ ghost use Rattle.decimal.specs.Decimal.{largest};
 ghost use Rattle.text.specs.Marks.{space};
 ghost use Rattle.text.specs.Put.{Put};
 ghost use Rattle.panel.specs.Step.{answerBy};
-ghost use Rattle.lines.specs.Lines.{kindLetter, levelDigit, outsText, analogText, nextCount, headerLine, eventLine, loadLine, endLine};
+ghost use Rattle.lines.specs.Lines.{kindLetter, levelDigit, outsText, analogText, nextCount, countMore, headerLine, eventLine, loadLine, endLine};
 ghost use Rattle.lines.specs.LineLaws.{longest};
-ghost use Rattle.lines.specs.Fields.{valueFields, driveFields, refusalFields};
+ghost use Rattle.lines.specs.Fields.{valueFields, driveFields, answerText, refusalFields};
 
 // The letter of an event's kind.
 fn kind_letter(e: Event) -> u8
@@ -99,14 +99,38 @@ fn put_drives(out: &mut [u8], at: usize, t: &[i32; 104], o: Outcome) -> usize
     text::put_natural(out, p2, o.note as u64, b'\n')
 }
 
+// Puts what stands on a line from the result to the note, and ends the line.
+pub fn put_answer(out: &mut [u8], at: usize, t: &[i32; 104], o: Outcome) -> usize
+    requires { ⌜ at + 88 ≤ length (now out) ⌝ }
+    ensures { λ r. ⌜ Put (now (out .entry)) at (answerText (answerBy (now (t .entry)) o)) r (now (out .exit)) ⌝ }
+{
+    let l = o.live;
+    let p1 = put_values(out, at, l);
+    put_drives(out, p1, t, o)
+}
+
+// The largest number that is printed.
+const LARGEST: u64 = 999_999_999_999_999_999;
+
 // The count after one more event; it stays at the largest number that is printed.
 pub fn next_count(n: u64) -> u64
     ensures { λ r. ⌜ r ≡ nextCount n ⌝ }
 {
-    if n < 999_999_999_999_999_999 {
+    if n < LARGEST {
         return n + 1;
     }
-    999_999_999_999_999_999
+    LARGEST
+}
+
+// The count after `k` more events; it stays there too.
+pub fn count_more(n: u64, k: u32) -> u64
+    ensures { λ r. ⌜ r ≡ countMore n k ⌝ }
+{
+    let more = k as u64;
+    if n < LARGEST - more {
+        return n + more;
+    }
+    LARGEST
 }
 
 // Puts the first line, which names the fields.
@@ -131,9 +155,7 @@ pub fn event_line(
 {
     let p1 = text::put_natural(out, at, count, b' ');
     let p2 = put_kind(out, p1, e);
-    let l = o.live;
-    let p3 = put_values(out, p2, l);
-    put_drives(out, p3, t, o)
+    put_answer(out, p2, t, o)
 }
 
 // Puts a load's number and slot, and ends the line.

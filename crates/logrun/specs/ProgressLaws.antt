@@ -14,7 +14,8 @@ use Rattle.events.specs.Bytes.{wordsIn}
 use Rattle.events.specs.ByteLaws.{wordFrom, words-next, words-done}
 use Rattle.events.specs.Log.{takenOf}
 use Rattle.lines.specs.Lines.{nextCount}
-use Rattle.lines.specs.LineLaws.{longest, event-line-at-most, nextCount-range}
+use Rattle.lines.specs.CountLaws.{nextCount-range}
+use Rattle.lines.specs.LineLaws.{longest, event-line-at-most}
 use Rattle.panel.specs.Step.{stepOf}
 use Rattle.panel.specs.ValidLaws.{good-step}
 use Rattle.logrun.specs.declared.Progress.{Progress}

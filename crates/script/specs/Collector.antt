@@ -14,7 +14,7 @@ use Rattle.script.specs.declared.collector.Collector.{Collector}
 
 -- the most bytes that are held of a line: the longest line, a carriage return, and one byte more, which makes it too long
 abbrev pub most : ℕ
-most = 1026
+most = 10242
 
 -- nothing has come
 abbrev pub freshCollector : Collector

@@ -12,8 +12,9 @@ use lib.Seq.{take-suc-set, take-all, take-append-le, length-take-le}
 use borrow.Author.Tests.{lt-ltb, le-ltb, le-leb, ltb-true, ltb-false, ne-eqb, eqb-false, not-true}
 use Rattle.decimal.specs.DigitLaws.{both-true}
 use Rattle.text.specs.Marks.{newline, carriageReturn}
-use Rattle.text.specs.Words.{trimmedOf}
-use Rattle.script.specs.Commands.{longest, tooLong, commandOf}
+use Rattle.text.specs.Words.{trimmedOf, wordsOf}
+use Rattle.script.specs.Commands.{limitOf, tooLong, commandOf}
+use Rattle.script.specs.LimitLaws.{limit-most}
 use Rattle.script.specs.declared.Command.{Command}
 use Rattle.script.specs.declared.Command.the-variants.{Wrong}
 use Rattle.script.specs.declared.collector.Collector.{Collector}
@@ -49,7 +50,9 @@ trimmed-length s = by (eqb (getD s (length s - 1) 0) carriageReturn)
 
 long-wrong : (s : List ℕ) → most ≤ length s → commandOf s ≡ Wrong tooLong
 unfolding commandOf
-long-wrong s h = rw (lt-ltb longest (length (trimmedOf s)) (omega (arith, trimmed-length s)))
+long-wrong s h =
+    let t = trimmedOf s in
+    rw (lt-ltb (limitOf (wordsOf t)) (length t) (omega (arith, trimmed-length s, limit-most (wordsOf t))))
 
 -- A LINE MEANS THE SAME WHEN IT IS CUT BEHIND THE MOST BYTES THAT ARE HELD
 pub cut-alike : (p : List ℕ) → commandOf (take most p) ≡ commandOf p
@@ -61,7 +64,7 @@ cut-alike p = by (ltb most (length p)) refl
         long-wrong (take most p) (omega (arith, length-take-le most p (omega arith))) ∙ sym (long-wrong p (omega arith))
     by false e = ap commandOf (take-all most p (ltb-false most (length p) e))
 
--- a line that is not too long is not cut, so that its frame's bytes are all there
+-- a line that is not too long is not cut, so that its frame's bytes or its burst's telegrams are all there
 pub cut-whole : (p : List ℕ) → (commandOf p ≡ Wrong tooLong → ⊥) → take most p ≡ p
 cut-whole p n = by (ltb most (length p)) refl
   where

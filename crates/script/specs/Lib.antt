@@ -3,7 +3,9 @@ pub mod Commands
 pub mod Collector
 pub mod Messages
 pub mod NumberLaws
+pub mod GatherLaws
 pub mod FrameLaws
+pub mod BurstLaws
 pub mod MessageLaws
 pub mod LimitLaws
 pub mod PlainLaws

@@ -9,6 +9,7 @@ use lib.Dec.{eqb, ltb, leb}
 use lib.IntN.{ℤ}
 use lib.ListN.{length, getD}
 use borrow.Author.Tests.{leb-true, le-leb, ltb-true, lt-ltb}
+use Rattle.integers.specs.ChoiceLaws.{by-test}
 use Rattle.decimal.specs.Decimal.{sameText}
 use Rattle.text.specs.Words.{trimmedOf, wordsOf, onlyOf, firstOf, othersOf}
 use Rattle.text.specs.Hex.{isHex, hexOf}
@@ -17,10 +18,21 @@ use Rattle.script.specs.declared.Numeral.the-variants.{Count, Missing}
 use Rattle.script.specs.declared.Integer.{Integer}
 use Rattle.script.specs.declared.Integer.the-variants.{Word, Other}
 use Rattle.script.specs.declared.Command.{Command}
-use Rattle.script.specs.declared.Command.the-variants.{Blank, Wrong, Node, Slot, Start, Halves, Record, Telegram, Levels, Tick, Frame}
-use Rattle.script.specs.Commands.{naturalOf, signedOf, lastNode, lastSlot, tooLong, badStart, badHalves, badRecord, badTelegram, badFrame, nodeBy, nodeOf, slotBy, slotOf, aloneOf, startOf, halvesOf, recordOf, telegramIn, levelsBy, levelsOf, tickBy, tickOf, isFrame, framedOf, Entry, table, namedIn, meaningOf, longest, hash, commandOf}
+use Rattle.script.specs.declared.Command.the-variants.{Blank, Wrong, Node, Slot, Start, Halves, Record, Telegram, Burst, Levels, Tick, Frame}
+use Rattle.script.specs.Commands.{naturalOf, signedOf, lastNode, lastSlot, tooLong, badStart, badHalves, badRecord, badTelegram, badFrame, badBurst, nodeBy, nodeOf, slotBy, slotOf, aloneOf, startOf, halvesOf, recordOf, telegramIn, levelsBy, levelsOf, tickBy, tickOf, isFrame, framedOf, isBurst, burstIn, Entry, table, namedIn, meaningOf, longest, longestBurst, burstWord, limitOf, hash, commandOf}
 use Rattle.script.specs.NumberLaws.{count-most}
 
+-- ---- how long a line may be: `longest` at least, and nowhere more than with `b`
+module _ (ws : List (List ℕ)) where
+  pub limit-least : longest ≤ limitOf ws
+  unfolding limitOf
+  limit-least = by-test (sameText (firstOf ws) burstWord) longestBurst longest (λ (n : ℕ). longest ≤ n) (λ _. omega arith) (λ _. omega arith)
+
+  pub limit-most : limitOf ws ≤ longestBurst
+  unfolding limitOf
+  limit-most = by-test (sameText (firstOf ws) burstWord) longestBurst longest (λ (n : ℕ). n ≤ longestBurst) (λ _. omega arith) (λ _. omega arith)
+
+-- ---- numbers
 -- whether the numbers of a command lie in their ranges
 unfoldable pub inRange : Command → Bool
 inRange Blank = true
@@ -31,6 +43,7 @@ inRange Start = true
 inRange Halves = true
 inRange Record = true
 inRange (Telegram n) = true
+inRange Burst = true
 inRange (Levels n) = true
 inRange (Tick n) = true
 inRange Frame = true
@@ -79,6 +92,10 @@ telegram-in : (ws : List (List ℕ)) → inRange (telegramIn ws) ≡ true
 unfolding telegramIn inRange
 telegram-in ws = either (isHex 1 8 (onlyOf ws)) (Telegram (hexOf (onlyOf ws))) (Wrong badTelegram) refl refl
 
+burst-in : (ws : List (List ℕ)) → inRange (burstIn ws) ≡ true
+unfolding burstIn inRange
+burst-in ws = either (isBurst ws) Burst (Wrong badBurst) refl refl
+
 levels-in : (ws : List (List ℕ)) → inRange (levelsOf ws) ≡ true
 unfolding levelsOf inRange
 levels-in ws = by (naturalOf 255 (onlyOf ws))
@@ -105,7 +122,7 @@ data AllIn : List Entry → Type 0 where
   entry : {e : Entry} {es : List Entry} → ((ws : List (List ℕ)) → inRange (e .1 ws) ≡ true) → AllIn es → AllIn (e ∷ es)
 
 table-in : AllIn table
-table-in = entry node-in (entry slot-in (entry start-in (entry halves-in (entry record-in (entry telegram-in (entry levels-in (entry tick-in (entry framed-in none))))))))
+table-in = entry node-in (entry slot-in (entry start-in (entry halves-in (entry record-in (entry telegram-in (entry burst-in (entry levels-in (entry tick-in (entry framed-in none)))))))))
 
 named-in : (es : List Entry) → AllIn es → (w : List ℕ) (ws : List (List ℕ)) → inRange (namedIn es w ws) ≡ true
 unfolding namedIn inRange
@@ -122,7 +139,7 @@ pub command-in : (line : List ℕ) → inRange (commandOf line) ≡ true
 unfolding commandOf inRange
 command-in line =
     let t = trimmedOf line in
-    either (ltb longest (length t)) (Wrong tooLong) (cond (eqb (getD t 0 0) hash) Blank (meaningOf (wordsOf t))) refl
+    either (ltb (limitOf (wordsOf t)) (length t)) (Wrong tooLong) (cond (eqb (getD t 0 0) hash) Blank (meaningOf (wordsOf t))) refl
     (either (eqb (getD t 0 0) hash) Blank (meaningOf (wordsOf t)) refl (meaning-in (wordsOf t)))
 
 pub node-limit : (line : List ℕ) (n : ℕ) → commandOf line ≡ Node n → n ≤ 65535

@@ -35,8 +35,8 @@ message-fits kind =
     leb-true (length t) longestMessage
     (both-true (leb (length t) longestMessage) (sameText (take 2 t) (63 ∷ space ∷ []) && (eqb (getD t (length t - 1) 0) newline && noNewline (take (length t - 1) t))) (message-is kind) .0)
 
--- a number that is no reason of 1 to 11
-pub other-message : (kind : ℕ) → (0 < kind → 12 ≤ kind) → messageOf kind ≡ noPanelText
+-- a number that is no reason of 1 to 12
+pub other-message : (kind : ℕ) → (0 < kind → 13 ≤ kind) → messageOf kind ≡ noPanelText
 unfolding messageOf
 other-message zero h = refl
 other-message (suc n) h = List·getD-eq-default messages noPanelText {n = suc n} (omega (arith, h (omega arith)))

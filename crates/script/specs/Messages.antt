@@ -10,19 +10,21 @@ use Rattle.decimal.specs.Decimal.{sameText}
 use Rattle.text.specs.Marks.{space, newline}
 use Rattle.script.specs.Collector.{noNewline}
 
--- ? line has more than 1024 bytes
+-- ? line has more than 1024 bytes, or 10240 with b
 abbrev pub tooLongText : List ℕ
 tooLongText =
     63 ∷ 32 ∷ 108 ∷ 105 ∷ 110 ∷ 101 ∷ 32 ∷ 104 ∷ 97 ∷ 115 ∷ 32 ∷ 109 ∷ 111 ∷ 114 ∷ 101 ∷ 32 ∷ 116 ∷ 104 ∷ 97 ∷ 110
-    ∷ 32 ∷ 49 ∷ 48 ∷ 50 ∷ 52 ∷ 32 ∷ 98 ∷ 121 ∷ 116 ∷ 101 ∷ 115 ∷ 10 ∷ []
+    ∷ 32 ∷ 49 ∷ 48 ∷ 50 ∷ 52 ∷ 32 ∷ 98 ∷ 121 ∷ 116 ∷ 101 ∷ 115 ∷ 44 ∷ 32 ∷ 111 ∷ 114 ∷ 32 ∷ 49 ∷ 48 ∷ 50 ∷ 52
+    ∷ 48 ∷ 32 ∷ 119 ∷ 105 ∷ 116 ∷ 104 ∷ 32 ∷ 98 ∷ 10 ∷ []
 
--- ? no such word; the words are node, slot, start, halves, record, t, i, c and f
+-- ? no such word; the words are node, slot, start, halves, record, t, b, i, c and f
 abbrev pub noSuchWordText : List ℕ
 noSuchWordText =
     63 ∷ 32 ∷ 110 ∷ 111 ∷ 32 ∷ 115 ∷ 117 ∷ 99 ∷ 104 ∷ 32 ∷ 119 ∷ 111 ∷ 114 ∷ 100 ∷ 59 ∷ 32 ∷ 116 ∷ 104 ∷ 101 ∷ 32
     ∷ 119 ∷ 111 ∷ 114 ∷ 100 ∷ 115 ∷ 32 ∷ 97 ∷ 114 ∷ 101 ∷ 32 ∷ 110 ∷ 111 ∷ 100 ∷ 101 ∷ 44 ∷ 32 ∷ 115 ∷ 108 ∷ 111 ∷ 116
     ∷ 44 ∷ 32 ∷ 115 ∷ 116 ∷ 97 ∷ 114 ∷ 116 ∷ 44 ∷ 32 ∷ 104 ∷ 97 ∷ 108 ∷ 118 ∷ 101 ∷ 115 ∷ 44 ∷ 32 ∷ 114 ∷ 101 ∷ 99
-    ∷ 111 ∷ 114 ∷ 100 ∷ 44 ∷ 32 ∷ 116 ∷ 44 ∷ 32 ∷ 105 ∷ 44 ∷ 32 ∷ 99 ∷ 32 ∷ 97 ∷ 110 ∷ 100 ∷ 32 ∷ 102 ∷ 10 ∷ []
+    ∷ 111 ∷ 114 ∷ 100 ∷ 44 ∷ 32 ∷ 116 ∷ 44 ∷ 32 ∷ 98 ∷ 44 ∷ 32 ∷ 105 ∷ 44 ∷ 32 ∷ 99 ∷ 32 ∷ 97 ∷ 110 ∷ 100 ∷ 32
+    ∷ 102 ∷ 10 ∷ []
 
 -- ? node takes a number from 0 to 65535
 abbrev pub badNodeText : List ℕ
@@ -81,13 +83,20 @@ badRecordText =
     63 ∷ 32 ∷ 114 ∷ 101 ∷ 99 ∷ 111 ∷ 114 ∷ 100 ∷ 32 ∷ 116 ∷ 97 ∷ 107 ∷ 101 ∷ 115 ∷ 32 ∷ 110 ∷ 111 ∷ 116 ∷ 104 ∷ 105
     ∷ 110 ∷ 103 ∷ 10 ∷ []
 
+-- ? b takes at most 1100 telegrams of 1 to 8 hex digits each
+abbrev pub badBurstText : List ℕ
+badBurstText =
+    63 ∷ 32 ∷ 98 ∷ 32 ∷ 116 ∷ 97 ∷ 107 ∷ 101 ∷ 115 ∷ 32 ∷ 97 ∷ 116 ∷ 32 ∷ 109 ∷ 111 ∷ 115 ∷ 116 ∷ 32 ∷ 49 ∷ 49
+    ∷ 48 ∷ 48 ∷ 32 ∷ 116 ∷ 101 ∷ 108 ∷ 101 ∷ 103 ∷ 114 ∷ 97 ∷ 109 ∷ 115 ∷ 32 ∷ 111 ∷ 102 ∷ 32 ∷ 49 ∷ 32 ∷ 116 ∷ 111
+    ∷ 32 ∷ 56 ∷ 32 ∷ 104 ∷ 101 ∷ 120 ∷ 32 ∷ 100 ∷ 105 ∷ 103 ∷ 105 ∷ 116 ∷ 115 ∷ 32 ∷ 101 ∷ 97 ∷ 99 ∷ 104 ∷ 10 ∷ []
+
 -- ? no panel runs yet; start one
 abbrev pub noPanelText : List ℕ
 noPanelText =
     63 ∷ 32 ∷ 110 ∷ 111 ∷ 32 ∷ 112 ∷ 97 ∷ 110 ∷ 101 ∷ 108 ∷ 32 ∷ 114 ∷ 117 ∷ 110 ∷ 115 ∷ 32 ∷ 121 ∷ 101 ∷ 116 ∷ 59
     ∷ 32 ∷ 115 ∷ 116 ∷ 97 ∷ 114 ∷ 116 ∷ 32 ∷ 111 ∷ 110 ∷ 101 ∷ 10 ∷ []
 
--- the messages of the reasons 1 to 11, in their order; what stands at 0 is no reason's
+-- the messages of the reasons 1 to 12, in their order; what stands at 0 is no reason's
 abbrev pub messages : List (List ℕ)
 messages =
     noPanelText
@@ -102,9 +111,10 @@ messages =
     ∷ badFrameText
     ∷ badHalvesText
     ∷ badRecordText
+    ∷ badBurstText
     ∷ []
 
--- THE MESSAGE OF A REASON: 12 and any other number say that no panel runs
+-- THE MESSAGE OF A REASON: 13 and any other number say that no panel runs
 unfoldable pub messageOf : ℕ → List ℕ
 messageOf kind = getD messages kind noPanelText
 

@@ -1,8 +1,8 @@
 -- A COMMAND WRITTEN IN ITS PLAIN FORM IS READ BACK: its words parted by one space, its numbers as `decimal` and `text` write them.
-use mathlib.Core.Path.{_≡_, refl, _∙_}
+use mathlib.Core.Path.{_≡_, refl, ap, _∙_}
 use mathlib.Core.Bool.{true}
 use mathlib.Core.List.{List, [], _∷_}
-use Prim.Native.Nat.{ℕ, _+_, _^_, _≤_, _<_}
+use Prim.Native.Nat.{ℕ, suc, _+_, _*_, _^_, _≤_, _<_}
 use native.Mathlib.Omega.{arith}
 use lib.Dec.{ltb}
 use lib.IntN.{ℤ, pos}
@@ -13,14 +13,16 @@ use Rattle.integers.specs.Int.{P, N, Within}
 use Rattle.decimal.specs.Decimal.{largest, textOf, sameText}
 use Rattle.decimal.specs.DigitLaws.{both-true}
 use Rattle.decimal.specs.DecimalLaws.{written-is-read, text-at-most-19}
-use Rattle.text.specs.Plain.{allPlain, Words, last, more, spoken}
+use Rattle.text.specs.Plain.{allPlain, Plain, Words, last, more, spoken}
 use Rattle.text.specs.PlainLaws.{words-back, trimmed-same, text-plain}
 use Rattle.text.specs.Hex.{hexIn, pairWords, allBytes}
 use Rattle.text.specs.HexLaws.{hex-is, spaced-length}
 use Rattle.text.specs.HexBackLaws.{hexin-length, hexin-hex, hexin-word, hexin-back, pair-back, pair-hex, pairs-count, pair-words, pair-text}
-use Rattle.script.specs.Commands.{naturalBy, naturalIn, naturalOf, signedBy, signedOf, nodeOf, slotOf, aloneOf, telegramIn, levelsOf, tickOf, framedOf, mostBytes, isFrame, frameIn, frameOf, namedIn, namedOf, meaningOf, longest, hash, commandOf, nodeWord, slotWord, startWord, halvesWord, recordWord, telegramWord, levelsWord, tickWord, frameWord}
+use Rattle.script.specs.Commands.{naturalBy, naturalIn, naturalOf, signedBy, signedOf, nodeOf, slotOf, aloneOf, telegramIn, levelsOf, tickOf, framedOf, mostBytes, isFrame, frameIn, frameOf, mostListed, isBurst, burstIn, telegramsIn, telegramsOf, namedIn, namedOf, meaningOf, longest, limitOf, hash, commandOf, nodeWord, slotWord, startWord, halvesWord, recordWord, telegramWord, burstWord, levelsWord, tickWord, frameWord}
 use Rattle.script.specs.NumberLaws.{signed-word}
-use Rattle.script.specs.declared.Command.the-variants.{Node, Slot, Start, Halves, Record, Telegram, Levels, Tick, Frame}
+use Rattle.script.specs.LimitLaws.{limit-least}
+use Rattle.script.specs.BurstLaws.{allBelow}
+use Rattle.script.specs.declared.Command.the-variants.{Node, Slot, Start, Halves, Record, Telegram, Burst, Levels, Tick, Frame}
 
 -- ---- a line of plain words
 -- it begins as its first word does
@@ -30,11 +32,15 @@ first-byte w [] r = refl
 first-byte [] (v ∷ ws) (more p r) = absurd (omega (arith, p .some))
 first-byte (b ∷ w) (v ∷ ws) r = refl
 
--- A LINE OF PLAIN WORDS MEANS WHAT ITS FIRST WORD MAKES OF THE OTHERS, where it is no remark
-pub plain-means : (w : List ℕ) (ws : List (List ℕ)) → Words (w ∷ ws) → (getD w 0 0 ≡ hash → ⊥) → length (spoken (w ∷ ws)) ≤ longest → commandOf (spoken (w ∷ ws)) ≡ namedOf w ws
+-- A LINE OF PLAIN WORDS MEANS WHAT ITS FIRST WORD MAKES OF THE OTHERS, where it is no remark and not too long
+pub plain-within : (w : List ℕ) (ws : List (List ℕ)) → Words (w ∷ ws) → (getD w 0 0 ≡ hash → ⊥) → length (spoken (w ∷ ws)) ≤ limitOf (w ∷ ws) → commandOf (spoken (w ∷ ws)) ≡ namedOf w ws
 unfolding commandOf meaningOf
-plain-means w ws r n l =
-    rw (trimmed-same (w ∷ ws) r, le-ltb longest (length (spoken (w ∷ ws))) l, first-byte w ws r, ne-eqb (getD w 0 0) hash n, words-back (w ∷ ws) r)
+plain-within w ws r n l =
+    rw (trimmed-same (w ∷ ws) r, words-back (w ∷ ws) r, le-ltb (limitOf (w ∷ ws)) (length (spoken (w ∷ ws))) l, first-byte w ws r, ne-eqb (getD w 0 0) hash n)
+
+-- ... as it is within the limit of every word
+pub plain-means : (w : List ℕ) (ws : List (List ℕ)) → Words (w ∷ ws) → (getD w 0 0 ≡ hash → ⊥) → length (spoken (w ∷ ws)) ≤ longest → commandOf (spoken (w ∷ ws)) ≡ namedOf w ws
+plain-means w ws r n l = plain-within w ws r n (omega (arith, limit-least (w ∷ ws)))
 
 -- ---- numbers as words
 small : (n : ℕ) → n ≤ 65535 → Within largest (pos n)
@@ -138,3 +144,60 @@ unfolding frameOf frameIn allPlain
 frame-bytes-back l h e =
     let r = pair-words frameWord l (record { some = omega arith; all = refl }) in
     rw (trimmed-same (frameWord ∷ pairWords l) r, words-back (frameWord ∷ pairWords l) r, frame-is l h e) (pairs-values l e)
+
+-- ---- bursts
+-- a word of eight digits for each telegram
+unfoldable pub eightWords : List ℕ → List (List ℕ)
+eightWords [] = []
+eightWords (n ∷ l) = hexIn 8 n ∷ eightWords l
+
+eights-count : (l : List ℕ) → length (eightWords l) ≡ length l
+unfolding eightWords
+eights-count [] = refl
+eights-count (n ∷ l) = ap suc (eights-count l)
+
+eight-words : (w : List ℕ) (l : List ℕ) → Plain w → Words (w ∷ eightWords l)
+unfolding eightWords
+eight-words w [] p = last p
+eight-words w (n ∷ l) p = more p (eight-words (hexIn 8 n) l (hexin-word 8 n (omega arith)))
+
+-- a word and telegrams behind it: nine bytes for each telegram
+eights-length : (w : List ℕ) (l : List ℕ) → length (spoken (w ∷ eightWords l)) ≡ length w + 9 * length l
+unfolding eightWords spoken
+eights-length w [] = omega arith
+eights-length w (n ∷ l) = rw (length-append, eights-length (hexIn 8 n) l, hexin-length 8 n) (omega arith)
+
+eights-all : (l : List ℕ) → allHexWords 1 8 (eightWords l) ≡ true
+unfolding eightWords allHexWords
+eights-all [] = refl
+eights-all (n ∷ l) = rw (hex-is 1 8 (hexIn 8 n) (hexin-hex 8 n (omega arith)), eights-all l)
+
+eights-values : (l : List ℕ) → allBelow (2 ^ 32) l ≡ true → hexesOf (eightWords l) ≡ l
+unfolding allBelow eightWords hexesOf
+eights-values [] e = refl
+eights-values (n ∷ l) e =
+    let q = both-true (ltb n (2 ^ 32)) (allBelow (2 ^ 32) l) e in
+    rw (hexin-back 8 n (omega (arith, ltb-true n (2 ^ 32) (q .0))), eights-values l (q .1))
+
+module _ (l : List ℕ) (h : length l ≤ mostListed) where
+  burst-is : isBurst (eightWords l) ≡ true
+  unfolding isBurst areHex
+  burst-is = rw (eights-count l, le-leb (length l) mostListed h, eights-all l)
+
+  burst-words : Words (burstWord ∷ eightWords l)
+  unfolding allPlain
+  burst-words = eight-words burstWord l (record { some = omega arith; all = refl })
+
+  burst-limit : length (spoken (burstWord ∷ eightWords l)) ≤ limitOf (burstWord ∷ eightWords l)
+  unfolding limitOf sameText
+  burst-limit = omega (arith, eights-length burstWord l)
+
+  -- `b HEX HEX ..` IS READ BACK: 0 to 1,100 telegrams of eight digits
+  pub burst-back : commandOf (spoken (burstWord ∷ eightWords l)) ≡ Burst
+  unfolding namedIn sameText burstIn
+  burst-back = plain-within burstWord (eightWords l) burst-words (λ q. omega arith) burst-limit ∙ rw burst-is
+
+  pub burst-telegrams-back : allBelow (2 ^ 32) l ≡ true → telegramsOf (spoken (burstWord ∷ eightWords l)) ≡ l
+  unfolding telegramsOf telegramsIn
+  burst-telegrams-back e =
+      rw (trimmed-same (burstWord ∷ eightWords l) burst-words, words-back (burstWord ∷ eightWords l) burst-words, burst-is) (eights-values l e)

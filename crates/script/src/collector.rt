@@ -6,7 +6,7 @@ ghost use Prim.Native.Nat.{_<_, _≤_};
 ghost use Rattle.script.specs.Collector.{most, freshCollector, renewed, closed, added, pushed, heldOf, askedOf, pendingOf};
 
 // The most bytes that are held of a line: the longest line, a carriage return, and one byte more, which makes it too long.
-const MOST: usize = 1026;
+const MOST: usize = 10242;
 
 // The bytes of a stream since its last newline.
 pub struct Collector {

@@ -10,11 +10,15 @@ pub fn put_message(out: &mut [u8], at: usize, kind: u8) -> usize
     ensures { λ r. ⌜ Put (now (out .entry)) at (messageOf kind) r (now (out .exit)) ⌝ }
 {
     match kind {
-        1 => text::put_bytes(out, at, b"? line has more than 1024 bytes\n"),
+        1 => text::put_bytes(
+            out,
+            at,
+            b"? line has more than 1024 bytes, or 10240 with b\n",
+        ),
         2 => text::put_bytes(
             out,
             at,
-            b"? no such word; the words are node, slot, start, halves, record, t, i, c and f\n",
+            b"? no such word; the words are node, slot, start, halves, record, t, b, i, c and f\n",
         ),
         3 => text::put_bytes(out, at, b"? node takes a number from 0 to 65535\n"),
         4 => text::put_bytes(
@@ -33,6 +37,11 @@ pub fn put_message(out: &mut [u8], at: usize, kind: u8) -> usize
         ),
         10 => text::put_bytes(out, at, b"? halves takes nothing\n"),
         11 => text::put_bytes(out, at, b"? record takes nothing\n"),
+        12 => text::put_bytes(
+            out,
+            at,
+            b"? b takes at most 1100 telegrams of 1 to 8 hex digits each\n",
+        ),
         _ => text::put_bytes(out, at, b"? no panel runs yet; start one\n"),
     }
 }

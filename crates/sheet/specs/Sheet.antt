@@ -29,7 +29,7 @@ use Rattle.panel.specs.Telegrams.{diagnosedOf, builtBy}
 use Rattle.parameters.specs.Rows.{defaultTable}
 use Rattle.parameters.specs.Slots.{withWord}
 use Rattle.script.specs.declared.Command.{Command}
-use Rattle.script.specs.declared.Command.the-variants.{Blank, Wrong, Node, Slot, Start, Halves, Record, Telegram, Levels, Tick, Frame}
+use Rattle.script.specs.declared.Command.the-variants.{Blank, Wrong, Node, Slot, Start, Halves, Record, Telegram, Burst, Levels, Tick, Frame}
 use Rattle.script.specs.declared.Numeral.{Numeral}
 use Rattle.script.specs.declared.Numeral.the-variants.{Count, Missing}
 use Rattle.script.specs.Commands.{longest, commandOf, frameOf, naturalOf}
@@ -198,6 +198,7 @@ afterPlain s Start = afterStart s
 afterPlain s Halves = s
 afterPlain s Record = s
 afterPlain s (Telegram w) = afterEvent s (Event.Telegram w)
+afterPlain s Burst = s
 afterPlain s (Levels l) = afterEvent s (Event.Levels l)
 afterPlain s (Tick ms) = afterEvent s (Event.Tick ms)
 afterPlain s Frame = s
@@ -211,6 +212,7 @@ plainText s Start = startText s
 plainText s Halves = wrongLine
 plainText s Record = wrongLine
 plainText s (Telegram w) = eventText s (Event.Telegram w)
+plainText s Burst = wrongLine
 plainText s (Levels l) = eventText s (Event.Levels l)
 plainText s (Tick ms) = eventText s (Event.Tick ms)
 plainText s Frame = wrongLine

@@ -37,7 +37,7 @@ use Rattle.panel.specs.Telegrams.{diagnosedOf, builtBy}
 use Rattle.panel.specs.Step.{answerOf, answerBy, stepOf}
 use Rattle.parameters.specs.ValidLaws.{load-valid}
 use Rattle.script.specs.declared.Command.{Command}
-use Rattle.script.specs.declared.Command.the-variants.{Blank, Wrong, Node, Slot, Start, Halves, Record, Telegram, Levels, Tick, Frame}
+use Rattle.script.specs.declared.Command.the-variants.{Blank, Wrong, Node, Slot, Start, Halves, Record, Telegram, Burst, Levels, Tick, Frame}
 use Rattle.script.specs.declared.Numeral.{Numeral}
 use Rattle.script.specs.declared.Numeral.the-variants.{Count, Missing}
 use Rattle.script.specs.Commands.{longest, commandOf, frameOf}
@@ -85,6 +85,7 @@ ready-plain s Start r = ready-start s
 ready-plain s Halves r = r
 ready-plain s Record r = r
 ready-plain s (Telegram w) r = taken-ready r (s .progress .pending) (Happened (Event.Telegram w))
+ready-plain s Burst r = r
 ready-plain s (Levels l) r = taken-ready r (s .progress .pending) (Happened (Event.Levels l))
 ready-plain s (Tick ms) r = taken-ready r (s .progress .pending) (Happened (Event.Tick ms))
 ready-plain s Frame r = r
@@ -160,6 +161,7 @@ plain-most s Start = opening-most (loadedBy s)
 plain-most s Halves = omega arith
 plain-most s Record = omega arith
 plain-most s (Telegram w) = omega (arith, taken-at-most (s .progress) (Happened (Event.Telegram w)))
+plain-most s Burst = omega arith
 plain-most s (Levels l) = omega (arith, taken-at-most (s .progress) (Happened (Event.Levels l)))
 plain-most s (Tick ms) = omega (arith, taken-at-most (s .progress) (Happened (Event.Tick ms)))
 plain-most s Frame = omega arith

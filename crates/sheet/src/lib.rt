@@ -380,6 +380,7 @@ fn plain(s: Sheet, line: &[u8], out: &mut [u8]) -> Said
         Command::Node(_) => unknown(s, out),
         Command::Halves => unknown(s, out),
         Command::Record => unknown(s, out),
+        Command::Burst => unknown(s, out),
         Command::Frame => unknown(s, out),
     }
 }

@@ -14,7 +14,7 @@ use Rattle.panel.specs.Step.{stepOf}
 use Rattle.parameters.specs.Slots.{withWord}
 use Rattle.registers.specs.Serve.{Served, servedOf}
 use Rattle.script.specs.declared.Command.{Command}
-use Rattle.script.specs.declared.Command.the-variants.{Blank, Wrong, Node, Slot, Start, Halves, Record, Telegram, Levels, Tick, Frame}
+use Rattle.script.specs.declared.Command.the-variants.{Blank, Wrong, Node, Slot, Start, Halves, Record, Telegram, Burst, Levels, Tick, Frame}
 use Rattle.slave.specs.declared.files.Listed.{Listed}
 use Rattle.slave.specs.declared.files.Replied.{Replied}
 use Rattle.slave.specs.declared.files.Stepped.{Stepped}
@@ -33,6 +33,7 @@ listedOf t Start = unlisted t
 listedOf t Halves = unlisted t
 listedOf t Record = unlisted t
 listedOf t (Telegram w) = unlisted t
+listedOf t Burst = unlisted t
 listedOf t (Levels l) = unlisted t
 listedOf t (Tick ms) = unlisted t
 listedOf t Frame = unlisted t
@@ -56,6 +57,7 @@ steppedOf s (Slot n z) = keptOf s false
 steppedOf s Start = keptOf s false
 steppedOf s Halves = keptOf s false
 steppedOf s Record = keptOf s false
+steppedOf s Burst = keptOf s false
 steppedOf s Frame = keptOf s false
 
 -- ---- a frame of the serial line

@@ -3,7 +3,7 @@ use borrow.Author.Needs.{needs}
 use native.Mathlib.Omega.{arith}
 use Rattle.panel.specs.Step.{answerOf}
 use Rattle.logrun.specs.Progress.{afterTaken, textTaken}
-use Rattle.lines.specs.LineLaws.{nextCount-range}
+use Rattle.lines.specs.CountLaws.{nextCount-range}
 use Rattle.logrun.proofs.event.Statement.{statement}
 use Rattle.logrun.proofs.event.Tie as tie
 

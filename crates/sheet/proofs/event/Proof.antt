@@ -1,7 +1,7 @@
 -- `sheet::event` meets its contract: the panel steps and its line is put.
 use mathlib.Core.Path.{_∙_}
 use native.Mathlib.Omega.{arith}
-use Rattle.lines.specs.LineLaws.{nextCount-range}
+use Rattle.lines.specs.CountLaws.{nextCount-range}
 use Rattle.sheet.specs.SheetLaws.{event-done, event-told}
 use borrow.Author.Needs.{needs}
 use Rattle.sheet.proofs.event.Statement.{statement}

@@ -77,6 +77,12 @@ enum-told-7 c = search needs
 unknown-requires-5 : tie.Need-unknown-requires-5
 unknown-requires-5 c κs = search needs
 
+enum-told-8 : tie.Need-enum-told-8
+enum-told-8 c = search needs
+
+unknown-requires-6 : tie.Need-unknown-requires-6
+unknown-requires-6 c κs = search needs
+
 returns : tie.Need-returns
 unfolding afterPlain plainText
 returns c =
@@ -182,6 +188,16 @@ returns-11 c =
     let told = rw (x .before .before .before .before .read .ensures) at (x .before .before .enum-told7 .given .1) in
     (rw told (x .unknown5 .ensures .0), rw told (x .unknown5 .ensures .1))
 
+same-length-10 : tie.Need-same-length-10
+same-length-10 c = search needs
+
+returns-12 : tie.Need-returns-12
+unfolding afterPlain plainText
+returns-12 c =
+    let x = c .before .before in
+    let told = rw (x .before .before .before .before .read .ensures) at (x .before .before .enum-told8 .given .1) in
+    (rw told (x .unknown6 .ensures .0), rw told (x .unknown6 .ensures .1))
+
 pub plain-spec : {M : Type 1} → statement M
 plain-spec =
     tie.close
@@ -209,6 +225,8 @@ plain-spec =
     unknown-requires-4
     enum-told-7
     unknown-requires-5
+    enum-told-8
+    unknown-requires-6
     returns
     returns-2
     same-length
@@ -228,4 +246,6 @@ plain-spec =
     same-length-8
     returns-10
     same-length-9
-    returns-11)
+    returns-11
+    same-length-10
+    returns-12)

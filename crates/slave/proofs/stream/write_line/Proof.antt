@@ -12,7 +12,7 @@ held-requires c κs = search needs
 
 array-share-prefix-bytes : tie.Need-array-share-prefix-bytes
 array-share-prefix-bytes c =
-    let n : length (c .before .before .args .line .bytes) ≡ 1026 = search needs in
+    let n : length (c .before .before .args .line .bytes) ≡ 10242 = search needs in
     omega (arith, c .held .ensures .1)
 
 slice-aggregate-write-all : tie.Need-slice-aggregate-write-all
