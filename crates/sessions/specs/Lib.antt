@@ -3,6 +3,7 @@ pub mod Session
 pub mod Demand3
 pub mod SingleSteps
 pub mod WrittenOut
+pub mod Cases
 pub mod SingleStepsLaws
 pub mod Demand3Laws
 pub mod WrittenOutLaws

@@ -30,12 +30,12 @@ sessionOf node s [] = s
 sessionOf node s (x ∷ xs) = sessionOf node (entered node s x) xs
 
 -- K5, "Each telegram taken is an event of its own": those of a burst, as events
-unfoldable pub telegramsOf : List ℕ → List Event
-telegramsOf [] = []
-telegramsOf (w ∷ ws) = Telegram w ∷ telegramsOf ws
+unfoldable pub eventsOf : List ℕ → List Event
+eventsOf [] = []
+eventsOf (w ∷ ws) = Telegram w ∷ eventsOf ws
 
 abbrev pub takenOf : State → List ℕ → List Event
-takenOf s ws = telegramsOf (take (burstOf s ws .count) ws)
+takenOf s ws = eventsOf (take (burstOf s ws .count) ws)
 
 -- a run: the table in force when it began, and its events since
 pub record Run : Type 0 where

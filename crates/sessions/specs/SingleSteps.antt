@@ -13,7 +13,7 @@ use Rattle.events.specs.declared.Event.{Event}
 use Rattle.reading.specs.Reading.{acceptsOf}
 use Rattle.runs.specs.Run.{runOf, answersOf, lastOf, unasked}
 use Rattle.state.specs.declared.State.{State}
-use Rattle.sessions.specs.Session.{telegramsOf}
+use Rattle.sessions.specs.Session.{eventsOf}
 
 -- every telegram of a list is accepted
 unfoldable pub allAccepted : List ℤ → List ℕ → Bool
@@ -29,8 +29,8 @@ Stops t ws x =
 -- what a burst of these telegrams may give in this state
 pub record SingleSteps (s : State) (ws : List ℕ) (x : Burst) : Type 0 where
   -- "state and last answer, the note aside, equal those of single calls with the telegrams taken"
-  pub state : x .answer .state ≡ runOf s (telegramsOf (take (x .count) ws))
-  pub answer : x .answer ≡ noted (lastOf (unasked s) (answersOf s (telegramsOf (take (x .count) ws)))) (x .answer .note)
+  pub state : x .answer .state ≡ runOf s (eventsOf (take (x .count) ws))
+  pub answer : x .answer ≡ noted (lastOf (unasked s) (answersOf s (eventsOf (take (x .count) ws)))) (x .answer .note)
   -- those taken are accepted
   pub accepted : allAccepted (s .table) (take (x .count) ws) ≡ true
   pub stops : length ws ≤ mostTelegrams → Stops (s .table) ws x

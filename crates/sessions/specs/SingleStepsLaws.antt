@@ -21,7 +21,7 @@ use Rattle.runs.specs.Run.{runOf, answersOf, lastOf, unasked}
 use Rattle.runs.specs.RunLaws.{last-state}
 use Rattle.state.specs.declared.State.{State}
 use Rattle.state.specs.State.{rereadOf, receivedOf}
-use Rattle.sessions.specs.Session.{telegramsOf}
+use Rattle.sessions.specs.Session.{eventsOf}
 use Rattle.sessions.specs.SingleSteps.{allAccepted, Stops, SingleSteps, AsSingleSteps}
 
 -- ---- one telegram
@@ -55,7 +55,7 @@ shifted n m a (w ∷ ws) = go (eqb (answerTo a w .note) 0) (shifted n (m + 1) (a
 
 -- what is left to take behind an answer without a note
 record Behind (a : Answer) (ws : List ℕ) (x : Burst) : Type 0 where
-  answer : x .answer ≡ noted (lastOf a (answersOf (a .state) (telegramsOf (take (x .count) ws)))) (x .answer .note)
+  answer : x .answer ≡ noted (lastOf a (answersOf (a .state) (eventsOf (take (x .count) ws)))) (x .answer .note)
   accepted : allAccepted (a .state .table) (take (x .count) ws) ≡ true
   stops : Stops (a .state .table) ws x
 
@@ -78,7 +78,7 @@ module _ (a : Answer) (w : ℕ) (ws : List ℕ) (e : acceptsOf (a .state .table)
   stops-later x (inr h) = inr (h .0, omega (arith, h .1), ap (λ (t : List ℤ). acceptsOf t (getD ws (x .count) 0)) (sym (telegram-table (a .state) w)) ∙ h .2)
 
   behind-first : Behind (answerTo a w) ws (takenFrom 0 (answerTo a w) ws) → Behind a (w ∷ ws) (takenFrom 0 a (w ∷ ws))
-  unfolding telegramsOf answersOf lastOf allAccepted
+  unfolding eventsOf answersOf lastOf allAccepted
   behind-first h =
       let x = takenFrom 0 (answerTo a w) ws in
       subst (Behind a (w ∷ ws)) (sym first-taken)
@@ -96,11 +96,11 @@ module _ (a : Answer) (w : ℕ) (ws : List ℕ) (e : acceptsOf (a .state .table)
       ap (λ (k : ℕ). cond (eqb k 0) (takenFrom 1 (answerTo a w) ws) (burst 0 (noted a k))) n
 
   behind-refused : Behind a (w ∷ ws) (takenFrom 0 a (w ∷ ws))
-  unfolding telegramsOf answersOf lastOf allAccepted noted
+  unfolding eventsOf answersOf lastOf allAccepted noted
   behind-refused = subst (Behind a (w ∷ ws)) (sym first-refused) (record { answer = refl; accepted = refl; stops = inr (refl, omega arith, e) })
 
 behind : (a : Answer) (ws : List ℕ) → a .note ≡ 0 → Behind a ws (takenFrom 0 a ws)
-unfolding takenFrom telegramsOf answersOf lastOf allAccepted noted
+unfolding takenFrom eventsOf answersOf lastOf allAccepted noted
 behind a [] z = record { answer = refl; accepted = refl; stops = inl (z, refl) }
 behind a (w ∷ ws) z = go (acceptsOf (a .state .table) w) refl (behind (answerTo a w) ws)
   where
@@ -117,7 +117,7 @@ few s ws l =
     let x = takenFrom 0 (unasked s) ws in
     let h = behind (unasked s) ws refl in
     record {
-      state = ap (λ (a : Answer). a .state) (h .answer) ∙ last-state (unasked s) (telegramsOf (take (x .count) ws));
+      state = ap (λ (a : Answer). a .state) (h .answer) ∙ last-state (unasked s) (eventsOf (take (x .count) ws));
       answer = h .answer;
       accepted = h .accepted;
       stops = λ _. h .stops;
@@ -125,7 +125,7 @@ few s ws l =
     }
 
 many : (s : State) (ws : List ℕ) → mostTelegrams < length ws → SingleSteps s ws (burst 0 (noted (unasked s) 21))
-unfolding noted answerOf telegramsOf runOf answersOf lastOf allAccepted
+unfolding noted answerOf eventsOf runOf answersOf lastOf allAccepted
 many s ws m = record { state = refl; answer = refl; accepted = refl; stops = λ l. absurd (omega (arith, l, m)); many = λ _. (refl, refl) }
 
 pub as-single-steps : AsSingleSteps
