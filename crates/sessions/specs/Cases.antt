@@ -87,5 +87,5 @@ cases =
     []
 
 pub checked : AllWorked cases
-unfolding cases freshOf burst.burstOf burst.takenFrom burst.noted step.stepOf step.onTelegram step.answerOf step.displayedOf step.switchedOf step.switchesAfter state.receivedOf state.rereadOf follow.basisAfter reading.acceptsOf reading.directedAt reading.basisOf reading.measuredAt reading.measurementAt reading.readingOf reading.driveAt reading.codeAt reading.codedAt reading.marksOf reading.halvesOf settings.layoutOf settings.scalingOf settings.pointsOf settings.spanOf settings.preselectionOf settings.preselectionsOf ssi.accepted ssi.errorReported ssi.positionOf measure.directedOf measure.distanceOf measure.scaledOf measure.scaledBy measure.judgedOf measure.usedPoints measure.valueOf measure.measuredOf measure.measurementOf curve.curve curve.linearizedOf curve.linearizedBy roundDiv floorMod halved rounding row.defaultTable row.defaultsFrom row.rowAt row.rowOf code.codeOf code.codedOf code.held drives.floatOf drives.driveOf switching.suppresses switching.releasedOf switching.heldOf switching.pulseOf switching.signalOf switching.activeOf switching.conditionedOf switching.lockedOf switching.switchedOf switching.partnerOf switching.switchedAt eachFrom condition.latchedOf condition.onAbove condition.onBelow condition.onNear condition.compared condition.against condition.ruleOf condition.conditionOf condition.exceeds ofInt mul div add
+unfolding cases freshOf burst.burstOf burst.takenFrom burst.noted step.stepOf step.onTelegram step.answerOf step.displayedOf step.switchedOf step.switchesAfter state.receivedOf state.rereadOf follow.basisAfter reading.acceptsOf reading.directedAt reading.basisOf reading.measuredAt reading.measurementAt reading.readingOf reading.driveAt reading.codeAt reading.codedAt reading.marksOf reading.halvesOf settings.layoutOf settings.scalingOf settings.pointsOf settings.spanOf settings.preselectionOf settings.preselectionsOf ssi.accepted ssi.errorReported ssi.positionOf measure.directedOf measure.distanceOf measure.scaledOf measure.scaledBy measure.judgedOf measure.usedPoints measure.valueOf measure.measuredOf measure.scalingHalf measure.lineHalf measure.measurementOf curve.curve curve.linearizedOf curve.linearizedBy roundDiv floorMod halved rounding row.defaultTable row.defaultsFrom row.rowAt row.rowOf code.codeOf code.codeHalf code.codedOf code.held drives.floatOf drives.driveOf switching.suppresses switching.releasedOf switching.heldOf switching.pulseOf switching.signalOf switching.activeOf switching.conditionedOf switching.lockedOf switching.switchedOf switching.partnerOf switching.switchedAt eachFrom condition.latchedOf condition.onAbove condition.onBelow condition.onNear condition.compared condition.against condition.ruleOf condition.conditionOf condition.exceeds ofInt mul div add
 checked = refl
