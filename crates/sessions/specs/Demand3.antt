@@ -1,7 +1,7 @@
--- DEMAND 3 OVER SESSIONS, stated. For every node and table that start, and every list of events and frames: the panel after it is the one after the run of the events
--- since the last write carried out, from the fresh state of the table then in force, and demand 3 holds of that run. Starting afresh is no event and no
--- change of a condition: the run begins with no event, and its conditions are off at first.
--- Request K2. This file is definitions only; `demanded` of Demand3Laws proves it.
+-- DEMAND 3 OVER SESSIONS, stated. For every node and table that start, and every list of events, bursts and frames: the panel after it is the one after the run of
+-- the events since the last write carried out, the telegrams taken of a burst among them, from the fresh state of the table then in force, and demand 3 holds of
+-- that run. Starting afresh is no event and no change of a condition: the run begins with no event, and its conditions are off at first.
+-- Requests K2 and K5. This file is definitions only; `demanded` of Demand3Laws proves it.
 use mathlib.Core.Path.{_≡_}
 use mathlib.Core.List.{List}
 use Prim.Native.Nat.{ℕ}
