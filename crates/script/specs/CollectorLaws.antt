@@ -18,7 +18,17 @@ use Rattle.script.specs.LimitLaws.{limit-most}
 use Rattle.script.specs.declared.Command.{Command}
 use Rattle.script.specs.declared.Command.the-variants.{Wrong}
 use Rattle.script.specs.declared.collector.Collector.{Collector}
-use Rattle.script.specs.Collector.{most, freshCollector, renewed, closed, added, pushedOn, pushed, heldOf, lineOf, askedOf, pendingOf, fed, askedAt, askedBy, askedLast, askedInAll, noNewline, allLines, streamOf, commandsOf, lastOf}
+use Rattle.script.specs.declared.collector.Extent.{Extent}
+use Rattle.script.specs.Collector.{most, freshCollector, collected, renewed, begunOf, closed, added, pushedOn, pushed, heldOf, lineOf, askedOf, pendingOf, fed, askedAt, askedBy, askedLast, askedInAll, noNewline, allLines, streamOf, commandsOf, lastOf}
+
+-- ---- in a buffer
+pub begun-renews : (bytes : List ℕ) (x : Extent) → collected bytes (begunOf x) ≡ renewed (collected bytes x)
+unfolding begunOf
+begun-renews bytes x = by (x .ended) refl
+  where
+    by : (t : Bool) → x .ended ≡ t → collected bytes (begunOf x) ≡ renewed (collected bytes x)
+    by true e = rw e
+    by false e = rw e
 
 -- ---- pieces
 -- FEEDING a AND THEN b IS FEEDING a ++ b

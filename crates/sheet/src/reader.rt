@@ -4,11 +4,12 @@ use libc::STDIN_FILENO;
 use libc::STDOUT_FILENO;
 use script::collector;
 use script::collector::Collector;
+use script::collector::Extent;
 ghost use mathlib.Core.Path.{_≡_};
 ghost use Prim.Native.Nat.{_≤_};
 ghost use lib.ListN.{length};
 ghost use Rattle.logrun.specs.Progress.{Ready};
-ghost use Rattle.script.specs.Collector.{lineOf};
+ghost use Rattle.script.specs.Collector.{most, collected, lineOf};
 ghost use Rattle.sheet.specs.Sheet.{afterLine, room};
 
 // What is kept between pieces of the input.
@@ -29,13 +30,12 @@ fn output_room() -> [u8; 12928]
 }
 
 // A line that has ended: what it prints is written.
-fn answer(s: Sheet, l: Collector) -> Sheet
-    requires { ⌜ Ready (s .progress) ⌝ }
-    ensures is { λ r. ⌜ r ≡ afterLine s (lineOf l) ⌝ }
+fn answer(s: Sheet, bytes: &[u8], x: Extent) -> Sheet
+    requires { ⌜ Ready (s .progress) × (most ≤ length (now bytes)) ⌝ }
+    ensures is { λ r. ⌜ r ≡ afterLine s (lineOf (collected (now (bytes .entry)) x)) ⌝ }
     ensures ready { λ r. ⌜ Ready (r .progress) ⌝ }
 {
-    let bytes = l.bytes;
-    let n = collector::held(l);
+    let n = collector::held(x);
     let mut out = output_room();
     let a = crate::line(s, &bytes[..n], &mut out);
     let end = a.end;
@@ -44,12 +44,12 @@ fn answer(s: Sheet, l: Collector) -> Sheet
 }
 
 // What is kept behind a byte: a line that it ends is answered.
-fn take(s: Sheet, l: Collector) -> Sheet
-    requires { ⌜ Ready (s .progress) ⌝ }
+fn take(s: Sheet, bytes: &[u8], x: Extent) -> Sheet
+    requires { ⌜ Ready (s .progress) × (most ≤ length (now bytes)) ⌝ }
     ensures { λ r. ⌜ Ready (r .progress) ⌝ }
 {
-    if l.ended {
-        return answer(s, l);
+    if x.ended {
+        return answer(s, bytes, x);
     }
     s
 }
@@ -60,16 +60,17 @@ fn take_all(s: Sheet, l: Collector, bytes: &[u8]) -> Reader
     ensures { λ r. ⌜ Ready (r .sheet .progress) ⌝ }
 {
     let mut sheet = s;
-    let mut collector = l;
+    let mut held = l.bytes;
+    let mut x = collector::extent_of(l);
     let mut i: usize = 0;
     while i < bytes.len() {
-        collector = collector::push(collector, bytes[i]);
-        sheet = take(sheet, collector);
+        x = collector::push(&mut held, x, bytes[i]);
+        sheet = take(sheet, &held, x);
         i += 1;
     }
     Reader {
         sheet,
-        collector,
+        collector: collector::kept(held, x),
         more: true,
     }
 }
@@ -80,8 +81,9 @@ fn finish(s: Sheet, l: Collector) -> Reader
     ensures { λ r. ⌜ Ready (r .sheet .progress) ⌝ }
 {
     if collector::pending(l) {
+        let bytes = l.bytes;
         return Reader {
-            sheet: answer(s, l),
+            sheet: answer(s, &bytes, collector::extent_of(l)),
             collector: l,
             more: false,
         };
@@ -107,7 +109,7 @@ fn take_turn(s: Sheet, l: Collector) -> Reader
     take_all(s, l, &buffer[..n])
 }
 
-// Answers all lines of the input. The turns are nextCount down from a number that no input uses up.
+// Answers all lines of the input. The turns are counted down from a number that no input uses up.
 pub fn run() {
     let mut sheet = crate::fresh();
     let mut collector = collector::fresh();

@@ -55,7 +55,7 @@ fn read_table(fd: i32, path: &[u8]) -> Table {
             break;
         }
         let line = s.line;
-        let l = files::table_line(words, script::collector::asked(line));
+        let l = files::table_line(words, stream::asked(line));
         words = l.table;
         if !l.fits {
             stream::refuse(s, b"TABLE");
@@ -78,7 +78,7 @@ fn take_event(state: State, events: Stream) -> State
     ensures { λ r. ⌜ Good r ⌝ }
 {
     let line = events.line;
-    let x = files::event_line(state, script::collector::asked(line));
+    let x = files::event_line(state, stream::asked(line));
     if !x.fits {
         stream::refuse(events, b"EVENTS");
     }

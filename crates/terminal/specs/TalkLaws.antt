@@ -10,7 +10,7 @@ use Rattle.dialog.specs.declared.Console.{Console}
 use Rattle.script.specs.declared.collector.Collector.{Collector}
 use Rattle.script.specs.Collector.{pushed}
 use Rattle.terminal.specs.declared.Talk.{Talk}
-use Rattle.terminal.specs.Talk.{talk, answeredOf, talked, talkedAll}
+use Rattle.terminal.specs.Talk.{talk, talkedAt, talked, talkedAll}
 
 pub talked-pieces : (t : Talk) (a b : List ℕ) → talkedAll t (a ++ b) ≡ talkedAll (talkedAll t a) b
 unfolding talkedAll
@@ -26,12 +26,7 @@ pub talked-end : (t : Talk) (l : List ℕ) (i : ℕ) → length l ≤ i → talk
 unfolding talkedAll
 talked-end t l i h = rw (drop-of-length-le l h)
 
--- a byte as the code takes it
-module _ (t : Talk) (b : ℕ) (l : Collector) (e : l ≡ pushed (t .collector) b) where
-  pub talked-ended : (c : Console) → l .ended ≡ true → c ≡ answeredOf (t .console) l → talk c l ≡ talked t b
-  unfolding talked
-  talked-ended c on k = rw (k, ← e, on)
-
-  pub talked-open : l .ended ≡ false → talk (t .console) l ≡ talked t b
-  unfolding talked
-  talked-open off = rw (← e, off)
+-- a byte as the code takes it: collected, and then a line that it ends is answered
+pub talked-by : (c d : Console) (l m : Collector) (b : ℕ) → m ≡ pushed l b → talk d m ≡ talkedAt c m → talk d m ≡ talked (talk c l) b
+unfolding talked
+talked-by c d l m b e k = rw (← e) k

@@ -5,11 +5,13 @@ use libc::STDIN_FILENO;
 use libc::STDOUT_FILENO;
 use script::collector;
 use script::collector::Collector;
+use script::collector::Extent;
 ghost use mathlib.Core.Path.{_≡_};
 ghost use Prim.Native.Nat.{_≤_};
 ghost use lib.ListN.{length};
 ghost use Rattle.dialog.specs.Dialog.{Ready};
-ghost use Rattle.terminal.specs.Talk.{answeredOf, talked, talkedAll};
+ghost use Rattle.script.specs.Collector.{most, collected};
+ghost use Rattle.terminal.specs.Talk.{talk, answeredOf, talkedAt, talkedAll};
 
 // The dialog, and the line that has not ended yet.
 struct Talk {
@@ -28,13 +30,12 @@ struct Heard {
 }
 
 // A line that has ended: it is answered.
-fn answer(c: Console, l: Collector) -> Console
-    requires { ⌜ Ready c ⌝ }
-    ensures is { λ r. ⌜ r ≡ answeredOf c l ⌝ }
+fn answer(c: Console, bytes: &[u8], x: Extent) -> Console
+    requires { ⌜ Ready c × (most ≤ length (now bytes)) ⌝ }
+    ensures is { λ r. ⌜ r ≡ answeredOf c (collected (now (bytes .entry)) x) ⌝ }
     ensures ready { λ r. ⌜ Ready r ⌝ }
 {
-    let bytes = l.bytes;
-    let n = collector::held(l);
+    let n = collector::held(x);
     let mut out = [0u8; 128];
     let s = dialog::line(c, &bytes[..n], &mut out);
     let end = s.end;
@@ -42,25 +43,16 @@ fn answer(c: Console, l: Collector) -> Console
     s.console
 }
 
-// One byte of the input.
-fn take(t: Talk, b: u8) -> Talk
-    requires { ⌜ Ready (t .console) ⌝ }
-    ensures is { λ r. ⌜ r ≡ talked t b ⌝ }
-    ensures ready { λ r. ⌜ Ready (r .console) ⌝ }
+// What is kept behind a byte: a line that it ends is answered.
+fn take(c: Console, bytes: &[u8], x: Extent) -> Console
+    requires { ⌜ Ready c × (most ≤ length (now bytes)) ⌝ }
+    ensures is { λ r. ⌜ talk r (collected (now (bytes .entry)) x) ≡ talkedAt c (collected (now (bytes .entry)) x) ⌝ }
+    ensures ready { λ r. ⌜ Ready r ⌝ }
 {
-    let before = t.collector;
-    let l = collector::push(before, b);
-    let c = t.console;
-    if l.ended {
-        return Talk {
-            console: answer(c, l),
-            collector: l,
-        };
+    if x.ended {
+        return answer(c, bytes, x);
     }
-    Talk {
-        console: c,
-        collector: l,
-    }
+    c
 }
 
 // The bytes of a piece of the input.
@@ -69,13 +61,20 @@ fn take_all(t: Talk, bytes: &[u8]) -> Talk
     ensures is { λ r. ⌜ r ≡ talkedAll t (now (bytes .entry)) ⌝ }
     ensures ready { λ r. ⌜ Ready (r .console) ⌝ }
 {
-    let mut u = t;
+    let l = t.collector;
+    let mut held = l.bytes;
+    let mut x = collector::extent_of(l);
+    let mut c = t.console;
     let mut i: usize = 0;
     while i < bytes.len() {
-        u = take(u, bytes[i]);
+        x = collector::push(&mut held, x, bytes[i]);
+        c = take(c, &held, x);
         i += 1;
     }
-    u
+    Talk {
+        console: c,
+        collector: collector::kept(held, x),
+    }
 }
 
 // The end of the input: a last line without a newline counts too.
@@ -85,7 +84,8 @@ fn finish(t: Talk)
     let l = t.collector;
     if collector::pending(l) {
         let c = t.console;
-        answer(c, l);
+        let bytes = l.bytes;
+        answer(c, &bytes, collector::extent_of(l));
     }
 }
 

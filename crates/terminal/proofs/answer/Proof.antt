@@ -1,23 +1,19 @@
 -- `terminal::answer` meets its contract: the line is the bytes held, and what is written stands at the start of the buffer.
-use mathlib.Core.Path.{_≡_, sym}
+use mathlib.Core.Path.{sym}
 use native.Mathlib.Omega.{arith}
-use lib.ListN.{length}
 use lib.Seq.{length-take-le}
 use borrow.Author.Needs.{needs}
-use Rattle.script.specs.Collector.{most}
 use Rattle.terminal.proofs.answer.Statement.{statement}
 use Rattle.terminal.proofs.answer.Tie as tie
 
 held-requires : tie.Need-held-requires
 held-requires c κs = search needs
 
-array-share-prefix-bytes : tie.Need-array-share-prefix-bytes
-array-share-prefix-bytes c =
-    let n : length (c .before .before .args .l .bytes) ≡ most = search needs in
-    omega (arith, c .held .ensures .1)
-
 slice-aggregate-line : tie.Need-slice-aggregate-line
-slice-aggregate-line c = sym (length-take-le _ _ (array-share-prefix-bytes (c .before)))
+slice-aggregate-line c =
+    let h = c .before in
+    let s = h .before .before in
+    sym (length-take-le (h .held .result) (s .args .bytes .now) (omega (arith, h .held .ensures .1, s .pre .1)))
 
 slice-aggregate-line-2 : tie.Need-slice-aggregate-line-2
 slice-aggregate-line-2 c = search needs
@@ -45,7 +41,6 @@ answer-spec =
     tie.close
     (tie.spec
     held-requires
-    array-share-prefix-bytes
     slice-aggregate-line
     slice-aggregate-line-2
     line-requires

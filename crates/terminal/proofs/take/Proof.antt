@@ -1,23 +1,16 @@
--- `terminal::take` meets its contract: a line that the byte ends is answered.
-use Rattle.terminal.specs.TalkLaws.{talked-ended, talked-open}
+-- `terminal::take` meets its contract: a line that has ended is answered.
 use borrow.Author.Needs.{needs}
 use Rattle.terminal.proofs.take.Statement.{statement}
 use Rattle.terminal.proofs.take.Tie as tie
-
-push-requires : tie.Need-push-requires
-push-requires c κs = search needs
 
 answer-requires : tie.Need-answer-requires
 answer-requires c κs = search needs
 
 returns : tie.Need-returns
-returns c = let test = c .before in
-    let l = test .before .before in
-    (talked-ended _ _ (l .push .result) (l .push .ensures) _ (test .if1 .taken) (c .answer .ensures .0), c .answer .ensures .1)
+returns c = (rw (c .before .if1 .taken, c .answer .ensures .0), c .answer .ensures .1)
 
 returns-2 : tie.Need-returns-2
-returns-2 c = let l = c .before .before in
-    (talked-open _ _ (l .push .result) (l .push .ensures) (c .if1 .left), l .before .before .pre)
+returns-2 c = (rw (c .if1 .left), c .before .before .pre .0)
 
 pub take-spec : {M : Type 1} → statement M
-take-spec = tie.close (tie.spec push-requires answer-requires returns returns-2)
+take-spec = tie.close (tie.spec answer-requires returns returns-2)

@@ -1,9 +1,7 @@
 -- `sheet::reader::answer` meets its contract: the line is the bytes held, and what is printed stands at the start of the buffer.
-use mathlib.Core.Path.{_≡_, sym}
+use mathlib.Core.Path.{sym}
 use native.Mathlib.Omega.{arith}
-use lib.ListN.{length}
 use lib.Seq.{length-take-le}
-use Rattle.script.specs.Collector.{most}
 use borrow.Author.Needs.{needs}
 use Rattle.sheet.proofs.reader.answer.Statement.{statement}
 use Rattle.sheet.proofs.reader.answer.Tie as tie
@@ -14,13 +12,11 @@ held-requires c κs = search needs
 output-room-requires : tie.Need-output-room-requires
 output-room-requires c κs = search needs
 
-array-share-prefix-bytes : tie.Need-array-share-prefix-bytes
-array-share-prefix-bytes c =
-    let n : length (c .before .before .before .args .l .bytes) ≡ most = search needs in
-    omega (arith, c .before .held .ensures .1)
-
 slice-aggregate-line : tie.Need-slice-aggregate-line
-slice-aggregate-line c = sym (length-take-le _ _ (array-share-prefix-bytes (c .before)))
+slice-aggregate-line c =
+    let h = c .before .before in
+    let s = h .before .before in
+    sym (length-take-le (h .held .result) (s .args .bytes .now) (omega (arith, h .held .ensures .1, s .pre .1)))
 
 slice-aggregate-line-2 : tie.Need-slice-aggregate-line-2
 slice-aggregate-line-2 c = search needs
@@ -48,7 +44,6 @@ answer-spec =
     (tie.spec
     held-requires
     output-room-requires
-    array-share-prefix-bytes
     slice-aggregate-line
     slice-aggregate-line-2
     line-requires
