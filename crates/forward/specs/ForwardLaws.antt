@@ -45,12 +45,12 @@ use Rattle.state.specs.declared.State.{State}
 use Rattle.state.specs.State.{freshOf}
 use Rattle.state.specs.Valid.{Good}
 use Rattle.state.specs.ValidLaws.{good-fresh}
-use Rattle.panel.specs.Step.{answerOf}
+use Rattle.panel.specs.Step.{unasked, answerOf}
 use Rattle.runs.specs.Book.{Book, freshBook, takes, resets, bookInput, bookStep, bookFrom, bookOf}
 use Rattle.runs.specs.BookLaws.{Matches, book-run, book-fresh, plain-run}
 use Rattle.runs.specs.Demand3Laws.{good-run, kept-run}
 use Rattle.runs.specs.KeptLaws.{Kept, kept-fresh}
-use Rattle.runs.specs.Run.{runOf, unasked, lastAnswer}
+use Rattle.runs.specs.Run.{runOf, lastAnswer}
 use Rattle.runs.specs.RunLaws.{answer-own, last-own, last-state, own-result, own-error}
 use Rattle.forward.specs.Forward.{fallsAfter, yFalls, Forward, positionAt, readingAt, ForwardReadings, ForwardRuns, resetBy, resetIn, followedBy, ForwardTelegrams}
 use Rattle.forward.specs.RisingLaws.{neverFallsFrom, NeverFalls, curve-rises}

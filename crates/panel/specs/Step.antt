@@ -39,6 +39,10 @@ answerOf s note halves =
       halves = halves;
     }
 
+-- what a state answers that was given no event: no note, and no marks
+abbrev pub unasked : State → Answer
+unasked s = answerOf s 0 noHalves
+
 -- the answer that a table and the outcome beside it give
 abbrev pub answerBy : List ℤ → Outcome → Answer
 answerBy t o = answerOf (stateOf t (o .live)) (o .note) (o .halves)

@@ -30,10 +30,10 @@ use Rattle.switching.specs.SwitchingLaws.{markAt}
 use Rattle.switching.specs.Travel.{Seen, travel, changes, hysteretic}
 use Rattle.switching.specs.TravelLaws.{Lawful, view, mode-bound}
 use Rattle.state.specs.declared.State.{State}
-use Rattle.panel.specs.Step.{answerOf}
+use Rattle.panel.specs.Step.{unasked, answerOf}
 use Rattle.state.specs.Valid.{Good}
 use Rattle.panel.specs.ValidLaws.{good-step}
-use Rattle.runs.specs.Run.{runOf, unasked, lastAnswer, traceOf, stored}
+use Rattle.runs.specs.Run.{runOf, lastAnswer, traceOf, stored}
 use Rattle.runs.specs.Book.{Book, bookOf}
 use Rattle.runs.specs.Demand3.{exactAt, Demanded}
 use Rattle.runs.specs.RunLaws.{answer-own, last-state, last-own, own-result, own-error}

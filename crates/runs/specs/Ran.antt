@@ -11,7 +11,8 @@ use Rattle.panel.specs.declared.Answer.{Answer}
 use Rattle.panel.specs.Load.{loadedOf}
 use Rattle.parameters.specs.Load.{loadRefusal}
 use Rattle.runs.specs.declared.Ran.{Ran}
-use Rattle.runs.specs.Run.{unasked, lastAnswer}
+use Rattle.panel.specs.Step.{unasked}
+use Rattle.runs.specs.Run.{lastAnswer}
 use Rattle.runs.specs.Demand3.{Demand3}
 
 abbrev pub ran : ℕ → ℕ → Answer → Ran

@@ -13,7 +13,8 @@ use Rattle.parameters.specs.LoadLaws.{answer-number, answer-table}
 use Rattle.runs.specs.declared.Ran.{Ran}
 use Rattle.runs.specs.Demand3Laws.{demand3}
 use Rattle.runs.specs.Ran.{ran, ranOf, Promised}
-use Rattle.runs.specs.Run.{unasked, answersOf, lastOf, lastAnswer}
+use Rattle.panel.specs.Step.{unasked}
+use Rattle.runs.specs.Run.{answersOf, lastOf, lastAnswer}
 
 -- load's number is the table's
 number-is : (t : List ℤ) → loadedOf t .refusal ≡ loadRefusal t

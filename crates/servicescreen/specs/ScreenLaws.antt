@@ -20,11 +20,11 @@ use Rattle.driverecord.specs.Least.{Among, Each}
 use Rattle.driverecord.specs.LeastLaws.{among-between}
 use Rattle.events.specs.declared.Event.{Event}
 use Rattle.events.specs.declared.Event.the-variants.{Telegram, Levels, Tick}
-use Rattle.panel.specs.Step.{answerOf, onTelegram, onLevels, stepOf}
+use Rattle.panel.specs.Step.{unasked, answerOf, onTelegram, onLevels, stepOf}
 use Rattle.reading.specs.Reading.{noHalves}
 use Rattle.runs.specs.Demand3Laws.{kept-run}
 use Rattle.runs.specs.KeptLaws.{Kept, kept-fresh, kept-step}
-use Rattle.runs.specs.Run.{runOf, unasked, lastAnswer}
+use Rattle.runs.specs.Run.{runOf, lastAnswer}
 use Rattle.runs.specs.RunLaws.{answer-own, step-own, last-state, last-own, own-drive}
 use Rattle.settings.specs.Settings.{spanOf}
 use Rattle.state.specs.declared.State.{State}

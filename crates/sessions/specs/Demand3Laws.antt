@@ -9,17 +9,17 @@ use Rattle.state.specs.declared.State.{State}
 use Rattle.state.specs.State.{freshOf}
 use Rattle.burst.specs.Burst.{burstOf}
 use Rattle.events.specs.declared.Event.{Event}
-use Rattle.panel.specs.Step.{answerOf, stepOf}
+use Rattle.panel.specs.Step.{unasked, answerOf, stepOf}
 use Rattle.parameters.specs.Load.{loadRefusal}
 use Rattle.registers.specs.Serve.{servedOf}
 use Rattle.registers.specs.ServeLaws.{still, afresh}
 use Rattle.registers.specs.StartLaws.{starts}
 use Rattle.runs.specs.Demand3Laws.{demand3}
-use Rattle.runs.specs.Run.{runOf, unasked, lastAnswer}
+use Rattle.runs.specs.Run.{runOf, lastAnswer}
 use Rattle.runs.specs.RunLaws.{last-state}
 use Rattle.sessions.specs.Session.{Entry, event, burst, frame, Run, begun, entered, sessionOf, takenOf, continued, runIn}
 use Rattle.sessions.specs.SingleStepsLaws.{as-single-steps}
-use Rattle.sessions.specs.Demand3.{lastRun, SessionDemand, Started, Demanded}
+use Rattle.sessions.specs.Demand3.{lastRun, SessionDemand, Demanded}
 
 -- events more at the end of a run
 pub run-on : (s : State) (es fs : List Event) → runOf s (es ++ fs) ≡ runOf (runOf s es) fs

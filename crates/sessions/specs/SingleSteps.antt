@@ -9,9 +9,9 @@ use lib.IntN.{ℤ}
 use lib.ListN.{length, getD, take}
 use Rattle.burst.specs.declared.Burst.{Burst}
 use Rattle.burst.specs.Burst.{mostTelegrams, noted, burstOf}
-use Rattle.events.specs.declared.Event.{Event}
+use Rattle.panel.specs.Step.{unasked}
 use Rattle.reading.specs.Reading.{acceptsOf}
-use Rattle.runs.specs.Run.{runOf, answersOf, lastOf, unasked}
+use Rattle.runs.specs.Run.{runOf, answersOf, lastOf}
 use Rattle.state.specs.declared.State.{State}
 use Rattle.sessions.specs.Session.{eventsOf}
 

@@ -1,9 +1,9 @@
 -- A burst is its telegrams one by one: by induction over the list, behind any answer.
 use mathlib.Core.Path.{_≡_, refl, sym, ap, subst, _∙_}
-use mathlib.Core.Bool.{Bool, true, false, cond, _&&_}
+use mathlib.Core.Bool.{Bool, true, false, cond}
 use mathlib.Core.List.{List, [], _∷_}
-use mathlib.Core.Logic.{_⊎_, inl, inr}
-use Prim.Native.Nat.{ℕ, zero, suc, _+_, _<_, _≤_}
+use mathlib.Core.Logic.{inl, inr}
+use Prim.Native.Nat.{ℕ, suc, _+_, _<_, _≤_}
 use native.Mathlib.Nat.{add-assoc}
 use native.Mathlib.Omega.{arith}
 use borrow.Author.Tests.{leb-true, leb-false}
@@ -15,9 +15,9 @@ use Rattle.burst.specs.Burst.{mostTelegrams, burst, noted, answerTo, takenFrom,
 use Rattle.events.specs.declared.Event.the-variants.{Telegram}
 use Rattle.integers.specs.ChoiceLaws.{by-test, map-cond, is-true, is-false}
 use Rattle.panel.specs.declared.Answer.{Answer}
-use Rattle.panel.specs.Step.{answerOf, stepOf, onTelegram, switchedOf, displayedOf}
+use Rattle.panel.specs.Step.{unasked, answerOf, stepOf, onTelegram, switchedOf, displayedOf}
 use Rattle.reading.specs.Reading.{acceptsOf}
-use Rattle.runs.specs.Run.{runOf, answersOf, lastOf, unasked}
+use Rattle.runs.specs.Run.{runOf, answersOf, lastOf}
 use Rattle.runs.specs.RunLaws.{last-state}
 use Rattle.state.specs.declared.State.{State}
 use Rattle.state.specs.State.{rereadOf, receivedOf}

@@ -1,6 +1,6 @@
 -- A session with bursts is the session with the bursts written out: entry by entry, since what a burst leaves is what its telegrams leave one by one.
-use mathlib.Core.Path.{_≡_, refl, sym, ap, ap₂, _∙_}
-use mathlib.Core.Bool.{true, _&&_}
+use mathlib.Core.Path.{_≡_, refl, sym, ap, _∙_}
+use mathlib.Core.Bool.{true}
 use mathlib.Core.List.{List, [], _∷_, _++_, append-assoc, append-nil}
 use Prim.Native.Nat.{ℕ}
 use lib.IntN.{ℤ}
@@ -11,7 +11,6 @@ use Rattle.runs.specs.Run.{runOf, traceOf}
 use Rattle.state.specs.declared.State.{State}
 use Rattle.state.specs.State.{freshOf}
 use Rattle.sessions.specs.Session.{Entry, event, burst, frame, Run, begun, entered, sessionOf, takenOf, continued, runIn}
-use Rattle.sessions.specs.Demand3.{lastRun}
 use Rattle.sessions.specs.SingleStepsLaws.{as-single-steps}
 use Rattle.sessions.specs.WrittenOut.{entriesOf, writtenOf, writtenOut, isSingle, allSingle, WrittenOut}
 

@@ -10,7 +10,7 @@ ghost use Prim.Native.Nat.{_≤_};
 ghost use lib.ListN.{length};
 ghost use Rattle.logrun.specs.Progress.{Ready};
 ghost use Rattle.script.specs.Collector.{most, collected, lineOf};
-ghost use Rattle.sheet.specs.Sheet.{afterLine, room};
+ghost use Rattle.sheet.specs.Sheet.{afterLine};
 
 // What is kept between pieces of the input.
 struct Reader {

@@ -7,7 +7,6 @@ use native.Mathlib.Omega.{arith}
 use lib.Arith.{digits-div, digits-mod, lt-one}
 use lib.Bits.{bitXor, differ, xor-step, xor-shr, xor-zero-r}
 use lib.Pow.{pow-pos, pow-mono, pow-add}
-use Rattle.ssi.specs.Builder.{grayCode}
 use Rattle.ssi.specs.GrayLaws.{grayCounted, counted-lt, code-counted, decoded-counted, half-lt, small-sum, two-pos}
 use Rattle.ssi.specs.Telegram.{grayDecoded}
 
