@@ -109,7 +109,7 @@ eventLine count e a = lineWith (number count ∷ (kindLetter e ∷ []) ∷ answe
 unfoldable pub nextCount : ℕ → ℕ
 nextCount n = cond (ltb n largest) (n + 1) largest
 
--- K5, "Each one taken is an event of its own": the count after k events more (`more-is-next` in CountLaws)
+-- K5, "Each telegram taken is an event of its own": the count after k events more (`more-is-next` in CountLaws)
 unfoldable pub countMore : ℕ → ℕ → ℕ
 countMore n k = cond (ltb (n + k) largest) (n + k) largest
 
