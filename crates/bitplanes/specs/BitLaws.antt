@@ -1,0 +1,95 @@
+-- The bits of a number, and what shifts and masks do to each of them.
+use mathlib.Core.Path.{_≡_, refl, sym, ap, ap₂, _∙_, subst}
+use mathlib.Core.Logic.{_⊎_, inl, inr}
+use Prim.Native.Nat.{ℕ, zero, suc, _+_, _-_, _*_, _/_, _%_, _^_, _<_, min, max}
+use native.Mathlib.Nat.{mod-lt, div-one, zero-div, zero-mod, mul-assoc, div-add-mod', min-zero, max-zero, zero-max, min-eq-left, min-le-left, lt-of-le-of-lt, le-of-suc-le-suc}
+use native.Mathlib.Omega.{arith}
+use lib.Arith.{lt-one, digits-mod}
+use lib.Bits.{bitAnd, bitOr, and-step, or-step, and-shr, or-shr, shifted-even}
+use lib.Dec.{lit<}
+use lib.Pow.{pow-add, shl-shr, shr-shr, shr-lt}
+use Rattle.bitplanes.specs.Turned.{bitAt}
+
+pub bit-lt : (k t : ℕ) → bitAt k t < 2
+bit-lt k t = mod-lt (t / 2 ^ k) (lit< tt)
+
+pub bit-first : (t : ℕ) → bitAt 0 t ≡ t % 2
+bit-first t = ap (λ (x : ℕ). x % 2) (div-one t)
+
+one-more : (k : ℕ) → 1 + k ≡ suc k
+one-more k = omega arith
+
+pub bit-next : (k t : ℕ) → bitAt (suc k) t ≡ bitAt k (t / 2)
+bit-next k t = ap (λ (x : ℕ). t / 2 ^ x % 2) (sym (one-more k)) ∙ ap (λ (x : ℕ). x % 2) (sym (shr-shr t 1 k))
+
+pub bit-none : (k : ℕ) → bitAt k 0 ≡ 0
+bit-none k = ap (λ (x : ℕ). x % 2) (zero-div (2 ^ k)) ∙ zero-mod 2
+
+pub two : (b : ℕ) → b < 2 → (b ≡ 0) ⊎ (b ≡ 1)
+two zero h = inl refl
+two (suc zero) h = inr refl
+two (suc (suc b)) h = absurd (too-big b h)
+  where
+    too-big : (x : ℕ) → suc (suc x) < 2 → ⊥
+    too-big x h = omega arith
+
+-- two numbers of n bits with the same bits are the same
+pub bits-same : (n a b : ℕ) → a < 2 ^ n → b < 2 ^ n → ((k : ℕ) → k < n → bitAt k a ≡ bitAt k b) → a ≡ b
+bits-same zero a b ha hb h = lt-one ha ∙ sym (lt-one hb)
+bits-same (suc n) a b ha hb h =
+    sym (div-add-mod' a 2)
+    ∙ ap₂ (λ (x y : ℕ). x * 2 + y)
+    (bits-same n (a / 2) (b / 2) (half n a ha) (half n b hb) (λ k l. sym (bit-next k a) ∙ h (suc k) (omega arith) ∙ bit-next k b))
+    (sym (bit-first a) ∙ h 0 (omega arith) ∙ bit-first b)
+    ∙ div-add-mod' b 2
+  where
+    half : (m x : ℕ) → x < 2 ^ suc m → x / 2 < 2 ^ m
+    half m x l = shr-lt m 1 (subst (λ (y : ℕ). x < 2 ^ y) (omega arith) l)
+
+-- ---- the operations, bit by bit
+and-last : (a b : ℕ) → bitAnd a b % 2 ≡ min (a % 2) (b % 2)
+and-last a b =
+    ap (λ (x : ℕ). x % 2) (and-step a b)
+    ∙ digits-mod (bitAnd (a / 2) (b / 2)) (lt-of-le-of-lt (min-le-left (a % 2) (b % 2)) (mod-lt a (lit< tt)))
+
+or-last : (a b : ℕ) → bitOr a b % 2 ≡ max (a % 2) (b % 2)
+or-last a b = ap (λ (x : ℕ). x % 2) (or-step a b) ∙ digits-mod (bitOr (a / 2) (b / 2)) (below (a % 2) (b % 2) (mod-lt a (lit< tt)) (mod-lt b (lit< tt)))
+  where
+    below : (x y : ℕ) → x < 2 → y < 2 → max x y < 2
+    below x y hx hy = omega arith
+
+pub bit-and : (k a b : ℕ) → bitAt k (bitAnd a b) ≡ min (bitAt k a) (bitAt k b)
+bit-and k a b = ap (λ (x : ℕ). x % 2) (and-shr a b k) ∙ and-last (a / 2 ^ k) (b / 2 ^ k)
+
+pub bit-or : (k a b : ℕ) → bitAt k (bitOr a b) ≡ max (bitAt k a) (bitAt k b)
+bit-or k a b = ap (λ (x : ℕ). x % 2) (or-shr a b k) ∙ or-last (a / 2 ^ k) (b / 2 ^ k)
+
+pub kept : (k a m : ℕ) → bitAt k m ≡ 1 → bitAt k (bitAnd a m) ≡ bitAt k a
+kept k a m h = bit-and k a m ∙ ap (min (bitAt k a)) h ∙ min-eq-left (le-of-suc-le-suc (bit-lt k a))
+
+pub cut : (k a m : ℕ) → bitAt k m ≡ 0 → bitAt k (bitAnd a m) ≡ 0
+cut k a m h = bit-and k a m ∙ ap (min (bitAt k a)) h ∙ min-zero (bitAt k a)
+
+pub or-left : (k a b : ℕ) → bitAt k b ≡ 0 → bitAt k (bitOr a b) ≡ bitAt k a
+or-left k a b h = bit-or k a b ∙ ap (max (bitAt k a)) h ∙ max-zero (bitAt k a)
+
+pub or-right : (k a b : ℕ) → bitAt k a ≡ 0 → bitAt k (bitOr a b) ≡ bitAt k b
+or-right k a b h = bit-or k a b ∙ ap (λ (x : ℕ). max x (bitAt k b)) h ∙ zero-max (bitAt k b)
+
+-- ---- shifts
+pub bit-shr : (k w a : ℕ) → bitAt k (a / 2 ^ w) ≡ bitAt (w + k) a
+bit-shr k w a = ap (λ (x : ℕ). x % 2) (shr-shr a w k)
+
+pub bit-shl : (k w a : ℕ) → bitAt (w + k) (a * 2 ^ w) ≡ bitAt k a
+bit-shl k w a = sym (bit-shr k w (a * 2 ^ w)) ∙ ap (bitAt k) (shl-shr a w)
+
+below-shl : (k n a : ℕ) → bitAt k (a * 2 ^ (suc n + k)) ≡ 0
+below-shl k n a =
+    ap (λ (x : ℕ). bitAt k (a * x)) (pow-add 2 (suc n) k) ∙ ap (bitAt k) (sym (mul-assoc a (2 ^ suc n) (2 ^ k)))
+    ∙ ap (λ (x : ℕ). x % 2) (shl-shr (a * 2 ^ suc n) k) ∙ shifted-even a n
+
+pub bit-shl-low : (k w a : ℕ) → k < w → bitAt k (a * 2 ^ w) ≡ 0
+bit-shl-low k w a h = ap (λ (x : ℕ). bitAt k (a * 2 ^ x)) (whole k w h) ∙ below-shl k (w - suc k) a
+  where
+    whole : (k w : ℕ) → k < w → w ≡ suc (w - suc k) + k
+    whole k w h = omega arith
