@@ -1,4 +1,4 @@
-//! Runs another panelrun or console on random cases and holds its output against the model's.
+//! Runs another panelrun, console or planes on random cases and holds its output against the model's.
 
 use std::fs;
 use std::io::{self, ErrorKind, Write};
@@ -8,7 +8,9 @@ use std::sync::Mutex;
 use std::thread;
 
 use crate::coverage::{self, Coverage};
+use crate::generate::planes::Met;
 use crate::generate::{self, borders, sessions};
+use crate::planes;
 use crate::tally::{self, Tally};
 
 /// Processes at a time.
@@ -24,7 +26,9 @@ pub trait Counts: Default + Send {
 pub struct Case<C> {
     pub purpose: String,
     pub input: Vec<u8>,
-    pub expected: String,
+    pub expected: Vec<u8>,
+    /// K8: what is printed for the output is the input.
+    pub turns_back: bool,
     pub met: C,
 }
 
@@ -60,7 +64,7 @@ pub fn panelrun_case(seed: u64, index: u64) -> Case<Coverage> {
         }
     };
     let (expected, met) = coverage::observe(&input);
-    Case { purpose, input, expected, met }
+    Case { purpose, input, expected: expected.into_bytes(), turns_back: false, met }
 }
 
 /// A text of console from a seed.
@@ -68,7 +72,17 @@ pub fn console_case(seed: u64, index: u64) -> Case<Tally> {
     let (input, sessions) = sessions::text(seed, index);
     let (expected, mut met) = tally::observe(&input);
     (0..sessions).for_each(|_| met.count("sessions"));
-    Case { purpose: format!("sessions: {sessions}"), input, expected, met }
+    let purpose = format!("sessions: {sessions}");
+    Case { purpose, input, expected: expected.into_bytes(), turns_back: false, met }
+}
+
+/// K8: an input of planes from a seed.
+pub fn planes_case(seed: u64, index: u64) -> Case<Met> {
+    let (content, input) = generate::planes::input(seed, index);
+    let expected = planes::turned_bytes(&input);
+    let met = Met::of(content, &input, &expected);
+    let purpose = format!("{}, {} bytes", content.name(), input.len());
+    Case { purpose, input, expected, turns_back: true, met }
 }
 
 /// Compares `count` cases; the first difference ends the comparison.
@@ -114,35 +128,55 @@ fn work<C: Counts>(shared: &Shared<C>) -> io::Result<()> {
     Ok(())
 }
 
-/// Runs one case through the program.
+/// Runs one case through the program, and its output once more where that turns back.
 fn compare<C>(program: &str, index: u64, case: Case<C>) -> io::Result<Option<Difference>> {
-    let output = run(program, &case.input)?;
+    let Case { purpose, input, expected, turns_back, .. } = case;
+    let difference = compare_run(program, index, &purpose, &input, &expected)?;
+    if difference.is_some() || !turns_back {
+        return Ok(difference);
+    }
+    compare_run(program, index, &format!("{purpose}, turned again"), &expected, &input)
+}
+
+/// Holds what the program prints for an input against what is expected.
+fn compare_run(
+    program: &str,
+    index: u64,
+    purpose: &str,
+    input: &[u8],
+    expected: &[u8],
+) -> io::Result<Option<Difference>> {
+    let output = run(program, input)?;
     let trouble = trouble(&output);
-    if output.stdout == case.expected.as_bytes() && trouble.is_empty() {
+    if output.stdout == expected && trouble.is_empty() {
         return Ok(None);
     }
     Ok(Some(Difference {
         case: index,
-        purpose: case.purpose,
-        input: case.input,
-        expected: case.expected.into_bytes(),
+        purpose: purpose.into(),
+        input: input.into(),
+        expected: expected.into(),
         actual: output.stdout,
         trouble,
     }))
 }
 
-/// Feeds an input to a program; one that stops reading early is no error.
+/// Feeds an input to a program while its output is read; one that stops reading early is no error.
 fn run(program: &str, input: &[u8]) -> io::Result<Output> {
     let mut child = Command::new(program)
         .stdin(Stdio::piped())
         .stdout(Stdio::piped())
         .stderr(Stdio::piped())
         .spawn()?;
-    match child.stdin.take().unwrap().write_all(input) {
-        Err(error) if error.kind() != ErrorKind::BrokenPipe => return Err(error),
-        _ => {}
-    }
-    child.wait_with_output()
+    let mut stdin = child.stdin.take().unwrap();
+    thread::scope(|scope| {
+        let feeding = scope.spawn(move || stdin.write_all(input));
+        let output = child.wait_with_output();
+        match feeding.join().unwrap() {
+            Err(error) if error.kind() != ErrorKind::BrokenPipe => Err(error),
+            _ => output,
+        }
+    })
 }
 
 /// Text on standard error, or an end by a signal.
@@ -154,14 +188,17 @@ fn trouble(output: &Output) -> String {
     text
 }
 
+/// Where two outputs part, and what each has there.
+pub type Parting = fn(&[u8], &[u8]) -> [String; 3];
+
 /// Writes input and outputs of a difference beside each other and prints where they part.
-pub fn report(difference: &Difference, program: &str) -> io::Result<()> {
+pub fn report(difference: &Difference, program: &str, parting: Parting) -> io::Result<()> {
     fs::write("difference.input", &difference.input)?;
     fs::write("difference.expected", &difference.expected)?;
     fs::write("difference.actual", &difference.actual)?;
     println!("case {} ({}) differs", difference.case, difference.purpose);
-    let (line, expected, actual) = first_parting(&difference.expected, &difference.actual);
-    println!("line {line}");
+    let [place, expected, actual] = parting(&difference.expected, &difference.actual);
+    println!("{place}");
     println!("{:9} {expected}", "model:");
     println!("{:9} {actual}", format!("{program}:"));
     if !difference.trouble.is_empty() {
@@ -172,14 +209,28 @@ pub fn report(difference: &Difference, program: &str) -> io::Result<()> {
 }
 
 /// Number and text of the first line that differs.
-fn first_parting(expected: &[u8], actual: &[u8]) -> (usize, String, String) {
+pub fn by_line(expected: &[u8], actual: &[u8]) -> [String; 3] {
     let lines = |bytes: &[u8]| -> Vec<String> {
         let text = String::from_utf8_lossy(bytes).into_owned();
         text.split('\n').map(String::from).collect()
     };
     let (expected, actual) = (lines(expected), lines(actual));
-    let longest = expected.len().max(actual.len());
-    let line = (0..longest).find(|&i| expected.get(i) != actual.get(i)).unwrap_or(longest);
+    let line = first_apart(&expected, &actual);
     let text = |lines: &[String]| lines.get(line).cloned().unwrap_or("(no line)".into());
-    (line + 1, text(&expected), text(&actual))
+    [format!("line {}", line + 1), text(&expected), text(&actual)]
+}
+
+/// K8: number and digits of the first byte that differs.
+pub fn by_byte(expected: &[u8], actual: &[u8]) -> [String; 3] {
+    let byte = first_apart(expected, actual);
+    let text = |bytes: &[u8]| match bytes.get(byte) {
+        Some(digits) => format!("{digits:02x}, of {} bytes", bytes.len()),
+        None => format!("(no byte), of {} bytes", bytes.len()),
+    };
+    [format!("byte {}", byte + 1), text(expected), text(actual)]
+}
+
+fn first_apart<T: PartialEq>(expected: &[T], actual: &[T]) -> usize {
+    let longest = expected.len().max(actual.len());
+    (0..longest).find(|&i| expected.get(i) != actual.get(i)).unwrap_or(longest)
 }

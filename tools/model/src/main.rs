@@ -6,18 +6,24 @@ use std::path::Path;
 use std::process::ExitCode;
 
 use model::record::{self, Recording};
-use model::{bench, console, differ, generate, panelrun, print, serve, sessions, slave};
+use model::{
+    bench, carriage, console, differ, generate, panelrun, planes, print, serve, sessions, slave,
+    turn,
+};
 
 const USAGE: &str = "usage:
   model run < input > output
   model print < input > output
   model console < text > text
+  model planes < bytes > bytes
   model slave NODE TABLE [EVENTS]  (a serial line on standard input and output)
   model generate SEED CASE > input
   model differ PANELRUN_PATH SEED COUNT
   model differ-console CONSOLE_PATH SEED COUNT
+  model differ-planes PLANES_PATH SEED COUNT
   model record runs SEED RUNS TABLES DIR
   model record sessions SEED COUNT DIR
+  model record planes DIR
   model check ..                   (as record: whether the files are those of the seed)
   model step ROUNDS < input        (a sum over all answers)
   model bursts ROUNDS < input      (a sum over all bursts of telegrams)
@@ -25,7 +31,10 @@ const USAGE: &str = "usage:
   model events KIND N > input      (telegrams, levels, ticks, mixed, far_end, middle, near_end
                                    or round_loop)
   model serve ROUNDS < input       (a sum over all replies)
-  model frames KIND N > input      (read, write or mixed)";
+  model frames KIND N > input      (read, write or mixed)
+  model carriage KIND N > words    (gray or binary)
+  model turn ROUNDS < words        (a sum over the turned words)
+  model copy ROUNDS < words        (the same by copying)";
 
 fn main() -> ExitCode {
     let words: Vec<String> = env::args().skip(1).collect();
@@ -46,12 +55,16 @@ fn command(words: &[&str]) -> io::Result<bool> {
         ["run"] => run(),
         ["print"] => print::print(io::stdin().lock(), io::stdout().lock()).map(|()| true),
         ["console"] => console::serve(io::stdin().lock(), io::stdout().lock()).map(|()| true),
+        ["planes"] => turn_planes(),
         ["slave", node, table] => slave::run(node, table, None),
         ["slave", node, table, events] => slave::run(node, table, Some(events)),
         ["generate", seed, case] => generate_case(number(seed)?, number(case)?),
         ["differ", program, seed, count] => compare(program, number(seed)?, number(count)?),
         ["differ-console", program, seed, count] => {
             compare_console(program, number(seed)?, number(count)?)
+        }
+        ["differ-planes", program, seed, count] => {
+            compare_planes(program, number(seed)?, number(count)?)
         }
         ["record", words @ .., folder] => write_record(&recording(words)?, folder),
         ["check", words @ .., folder] => check_record(&recording(words)?, folder),
@@ -67,6 +80,12 @@ fn command(words: &[&str]) -> io::Result<bool> {
             io::stdout().lock().write_all(&serve::input(kind, number(count)? as usize))?;
             Ok(true)
         }
+        ["carriage", kind, count] if carriage::KINDS.contains(kind) => {
+            io::stdout().lock().write_all(&carriage::log(kind, number(count)? as usize))?;
+            Ok(true)
+        }
+        ["turn", rounds] => sum(turn::sum, rounds),
+        ["copy", rounds] => sum(turn::sum_of_copies, rounds),
         _ => Err(io::Error::other(USAGE)),
     }
 }
@@ -77,6 +96,11 @@ fn number(word: &str) -> io::Result<u64> {
 
 fn run() -> io::Result<bool> {
     io::stdout().lock().write_all(panelrun::run(&input()?).as_bytes())?;
+    Ok(true)
+}
+
+fn turn_planes() -> io::Result<bool> {
+    io::stdout().lock().write_all(&planes::turned_bytes(&input()?))?;
     Ok(true)
 }
 
@@ -104,7 +128,7 @@ fn compare(program: &str, seed: u64, count: u64) -> io::Result<bool> {
     let make = |index| differ::panelrun_case(seed, index);
     let (seen, difference) = differ::differ(program, count, make)?;
     if let Some(difference) = difference {
-        differ::report(&difference, "panelrun")?;
+        differ::report(&difference, "panelrun", differ::by_line)?;
         return Ok(false);
     }
     println!("{} cases and {} lines compared, no difference", seen.runs, seen.lines);
@@ -117,10 +141,23 @@ fn compare_console(program: &str, seed: u64, count: u64) -> io::Result<bool> {
     let make = |index| differ::console_case(seed, index);
     let (seen, difference) = differ::differ(program, count, make)?;
     if let Some(difference) = difference {
-        differ::report(&difference, "console")?;
+        differ::report(&difference, "console", differ::by_line)?;
         return Ok(false);
     }
     println!("{count} runs with {} sessions compared, no difference", seen.of("sessions"));
+    print!("{seen}");
+    Ok(true)
+}
+
+/// K8: each input is turned, and what comes out once more.
+fn compare_planes(program: &str, seed: u64, count: u64) -> io::Result<bool> {
+    let make = |index| differ::planes_case(seed, index);
+    let (seen, difference) = differ::differ(program, count, make)?;
+    if let Some(difference) = difference {
+        differ::report(&difference, "planes", differ::by_byte)?;
+        return Ok(false);
+    }
+    println!("{} inputs and {} bytes compared, no difference", seen.inputs, seen.bytes);
     print!("{seen}");
     Ok(true)
 }
@@ -131,19 +168,26 @@ fn recording(words: &[&str]) -> io::Result<Recording> {
             Ok(record::recording(number(seed)?, number(runs)?, number(tables)?))
         }
         ["sessions", seed, count] => Ok(sessions::recording(number(seed)?, number(count)?)),
+        ["planes"] => Ok(planes::recording()),
         _ => Err(io::Error::other(USAGE)),
     }
 }
 
 fn write_record(recording: &Recording, folder: &str) -> io::Result<bool> {
     recording.write(Path::new(folder))?;
-    println!("{}: {} bytes", recording.name, recording.input.len());
+    let bytes = if recording.reads { recording.input.len() } else { recording.output.len() };
+    println!("{}: {bytes} bytes", recording.name);
     Ok(true)
 }
 
 fn check_record(recording: &Recording, folder: &str) -> io::Result<bool> {
     let same = recording.is_in(Path::new(folder))?;
-    let verdict = if same { "the files are those of the seed" } else { "the files differ" };
+    let verdict = match (recording.reads, same) {
+        (true, true) => "the files are those of the seed",
+        (true, false) => "the files differ",
+        (false, true) => "the file is the model's",
+        (false, false) => "the file differs",
+    };
     println!("{}: {verdict}", recording.name);
     Ok(same)
 }

@@ -18,24 +18,33 @@ pub struct Recording {
     pub name: &'static str,
     pub input: Vec<u8>,
     pub output: String,
+    /// Else there is no `stdin`.
+    pub reads: bool,
 }
 
 impl Recording {
     pub fn new(name: &'static str) -> Recording {
-        Recording { name, input: Vec::new(), output: String::new() }
+        Recording { name, input: Vec::new(), output: String::new(), reads: true }
+    }
+
+    /// What a program prints that reads nothing.
+    pub fn printed(name: &'static str, output: String) -> Recording {
+        Recording { name, input: Vec::new(), output, reads: false }
     }
 
     /// Writes the files into a folder.
     pub fn write(&self, folder: &Path) -> io::Result<()> {
         fs::create_dir_all(folder)?;
-        fs::write(folder.join("stdin"), &self.input)?;
+        if self.reads {
+            fs::write(folder.join("stdin"), &self.input)?;
+        }
         fs::write(folder.join("stdout"), &self.output)
     }
 
     /// Whether a folder has the files.
     pub fn is_in(&self, folder: &Path) -> io::Result<bool> {
-        let input = fs::read(folder.join("stdin"))?;
-        Ok(input == self.input && fs::read(folder.join("stdout"))? == self.output.as_bytes())
+        let same_input = !self.reads || fs::read(folder.join("stdin"))? == self.input;
+        Ok(same_input && fs::read(folder.join("stdout"))? == self.output.as_bytes())
     }
 }
 

@@ -1,4 +1,4 @@
-//! Random inputs of panelrun and texts of console from a seed.
+//! Random inputs of panelrun and planes, and texts of console, from a seed.
 
 pub mod borders;
 pub mod bursts;
@@ -7,6 +7,7 @@ pub mod frames;
 pub mod lines;
 pub mod logs;
 pub mod moment;
+pub mod planes;
 pub mod sessions;
 pub mod tables;
 pub mod theme;
