@@ -5,9 +5,9 @@ use Prim.Native.Nat.{ℕ, zero, suc, _+_, _-_, _*_, _/_, _%_, _^_, _<_, min, max
 use native.Mathlib.Nat.{mod-lt, div-one, zero-div, zero-mod, mul-assoc, div-add-mod', min-zero, max-zero, zero-max, min-eq-left, min-le-left, lt-of-le-of-lt, le-of-suc-le-suc}
 use native.Mathlib.Omega.{arith}
 use lib.Arith.{lt-one, digits-mod}
-use lib.Bits.{bitAnd, bitOr, and-step, or-step, and-shr, or-shr, shifted-even}
+use lib.Bits.{bitAnd, bitXor, differ, and-step, xor-step, and-shr, xor-shr, shifted-even}
 use lib.Dec.{lit<}
-use lib.Pow.{pow-add, shl-shr, shr-shr, shr-lt}
+use lib.Pow.{pow-add, shl-shr, shr-shr, shr-lt, field, mod-mod-pow}
 use Rattle.bitplanes.specs.Turned.{bitAt}
 
 pub bit-lt : (k t : ℕ) → bitAt k t < 2
@@ -47,34 +47,40 @@ bits-same (suc n) a b ha hb h =
     half m x l = shr-lt m 1 (subst (λ (y : ℕ). x < 2 ^ y) (omega arith) l)
 
 -- ---- the operations, bit by bit
+-- two digits and whether they differ, which with either of them gives the other
+pub digits-differ : (x y : ℕ) → x < 2 → y < 2 → (differ x y < 2) × (differ x (differ x y) ≡ y) × (differ y (differ x y) ≡ x)
+digits-differ x y hx hy = by-digits (two x hx) (two y hy)
+  where
+    by-digits : (x ≡ 0) ⊎ (x ≡ 1) → (y ≡ 0) ⊎ (y ≡ 1) → (differ x y < 2) × (differ x (differ x y) ≡ y) × (differ y (differ x y) ≡ x)
+    by-digits (inl e) (inl f) = rw (e, f) (lit< tt, refl, refl)
+    by-digits (inl e) (inr f) = rw (e, f) (lit< tt, refl, refl)
+    by-digits (inr e) (inl f) = rw (e, f) (lit< tt, refl, refl)
+    by-digits (inr e) (inr f) = rw (e, f) (lit< tt, refl, refl)
+
+pub differ-none : (x : ℕ) → differ x 0 ≡ x
+differ-none zero = refl
+differ-none (suc x) = refl
+
 and-last : (a b : ℕ) → bitAnd a b % 2 ≡ min (a % 2) (b % 2)
 and-last a b =
     ap (λ (x : ℕ). x % 2) (and-step a b)
     ∙ digits-mod (bitAnd (a / 2) (b / 2)) (lt-of-le-of-lt (min-le-left (a % 2) (b % 2)) (mod-lt a (lit< tt)))
 
-or-last : (a b : ℕ) → bitOr a b % 2 ≡ max (a % 2) (b % 2)
-or-last a b = ap (λ (x : ℕ). x % 2) (or-step a b) ∙ digits-mod (bitOr (a / 2) (b / 2)) (below (a % 2) (b % 2) (mod-lt a (lit< tt)) (mod-lt b (lit< tt)))
-  where
-    below : (x y : ℕ) → x < 2 → y < 2 → max x y < 2
-    below x y hx hy = omega arith
+xor-last : (a b : ℕ) → bitXor a b % 2 ≡ differ (a % 2) (b % 2)
+xor-last a b =
+    ap (λ (x : ℕ). x % 2) (xor-step a b) ∙ digits-mod (bitXor (a / 2) (b / 2)) (digits-differ (a % 2) (b % 2) (mod-lt a (lit< tt)) (mod-lt b (lit< tt)) .0)
 
 pub bit-and : (k a b : ℕ) → bitAt k (bitAnd a b) ≡ min (bitAt k a) (bitAt k b)
 bit-and k a b = ap (λ (x : ℕ). x % 2) (and-shr a b k) ∙ and-last (a / 2 ^ k) (b / 2 ^ k)
 
-pub bit-or : (k a b : ℕ) → bitAt k (bitOr a b) ≡ max (bitAt k a) (bitAt k b)
-bit-or k a b = ap (λ (x : ℕ). x % 2) (or-shr a b k) ∙ or-last (a / 2 ^ k) (b / 2 ^ k)
+pub bit-xor : (k a b : ℕ) → bitAt k (bitXor a b) ≡ differ (bitAt k a) (bitAt k b)
+bit-xor k a b = ap (λ (x : ℕ). x % 2) (xor-shr a b k) ∙ xor-last (a / 2 ^ k) (b / 2 ^ k)
 
 pub kept : (k a m : ℕ) → bitAt k m ≡ 1 → bitAt k (bitAnd a m) ≡ bitAt k a
 kept k a m h = bit-and k a m ∙ ap (min (bitAt k a)) h ∙ min-eq-left (le-of-suc-le-suc (bit-lt k a))
 
 pub cut : (k a m : ℕ) → bitAt k m ≡ 0 → bitAt k (bitAnd a m) ≡ 0
 cut k a m h = bit-and k a m ∙ ap (min (bitAt k a)) h ∙ min-zero (bitAt k a)
-
-pub or-left : (k a b : ℕ) → bitAt k b ≡ 0 → bitAt k (bitOr a b) ≡ bitAt k a
-or-left k a b h = bit-or k a b ∙ ap (max (bitAt k a)) h ∙ max-zero (bitAt k a)
-
-pub or-right : (k a b : ℕ) → bitAt k a ≡ 0 → bitAt k (bitOr a b) ≡ bitAt k b
-or-right k a b h = bit-or k a b ∙ ap (λ (x : ℕ). max x (bitAt k b)) h ∙ zero-max (bitAt k b)
 
 -- ---- shifts
 pub bit-shr : (k w a : ℕ) → bitAt k (a / 2 ^ w) ≡ bitAt (w + k) a
@@ -93,3 +99,11 @@ bit-shl-low k w a h = ap (λ (x : ℕ). bitAt k (a * 2 ^ x)) (whole k w h) ∙ b
   where
     whole : (k w : ℕ) → k < w → w ≡ suc (w - suc k) + k
     whole k w h = omega arith
+
+-- ---- the low bits of a number are its own
+pub bit-mod : (k n a : ℕ) → k < n → bitAt k (a % 2 ^ n) ≡ bitAt k a
+bit-mod k n a h =
+    ap (λ (x : ℕ). bitAt k (a % 2 ^ x)) (whole k n h) ∙ ap (λ (x : ℕ). x % 2) (field a (n - suc k + 1) k) ∙ mod-mod-pow (a / 2 ^ k) (n - suc k) 1
+  where
+    whole : (k n : ℕ) → k < n → n ≡ n - suc k + 1 + k
+    whole k n h = omega arith

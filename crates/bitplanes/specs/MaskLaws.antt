@@ -54,9 +54,9 @@ all-at p (suc n) k a h =
     apart true e = inl (eqb-true k n e)
     apart false e = let d : k ≡ n → ⊥ = eqb-false k n e in inr (omega arith)
 
--- bit k of the mask is set where the block of k is even, and bit k of the rest where it is odd
+-- bit k of the mask is set where the block of k is even
 maskRight : ℕ → ℕ → Bool
-maskRight w k = eqb (bitAt k (maskOf w)) (1 - at w k) && eqb (bitAt k (2 ^ 32 - 1 - maskOf w)) (at w k)
+maskRight w k = eqb (bitAt k (maskOf w)) (1 - at w k)
 
 masks : (w : ℕ) → Width w → all (maskRight w) 32 ≡ true
 unfolding all maskRight maskOf
@@ -66,13 +66,6 @@ masks _ by4 = refl
 masks _ by8 = refl
 masks _ by16 = refl
 
-module _ (w k : ℕ) (v : Width w) (h : k < 32) where
-  mask-tests : (eqb (bitAt k (maskOf w)) (1 - at w k) ≡ true) × (eqb (bitAt k (2 ^ 32 - 1 - maskOf w)) (at w k) ≡ true)
-  unfolding maskRight
-  mask-tests = both (eqb (bitAt k (maskOf w)) (1 - at w k)) (eqb (bitAt k (2 ^ 32 - 1 - maskOf w)) (at w k)) (all-at (maskRight w) 32 k (masks w v) h)
-
-  pub mask-bit : (b : ℕ) → at w k ≡ b → bitAt k (maskOf w) ≡ 1 - b
-  mask-bit b e = eqb-true (bitAt k (maskOf w)) (1 - at w k) (mask-tests .0) ∙ ap (λ (x : ℕ). 1 - x) e
-
-  pub rest-bit : (b : ℕ) → at w k ≡ b → bitAt k (2 ^ 32 - 1 - maskOf w) ≡ b
-  rest-bit b e = eqb-true (bitAt k (2 ^ 32 - 1 - maskOf w)) (at w k) (mask-tests .1) ∙ e
+pub mask-bit : (w k : ℕ) → Width w → k < 32 → (b : ℕ) → at w k ≡ b → bitAt k (maskOf w) ≡ 1 - b
+unfolding maskRight
+mask-bit w k v h b e = eqb-true (bitAt k (maskOf w)) (1 - at w k) (all-at (maskRight w) 32 k (masks w v) h) ∙ ap (λ (x : ℕ). 1 - x) e

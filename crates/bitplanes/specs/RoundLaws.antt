@@ -8,16 +8,16 @@ use Prim.Native.Nat.{ℕ, zero, suc, _+_, _-_, _*_, _/_, _%_, _^_, _≤_, _<_}
 use native.Mathlib.Nat.{add-div-right, div-eq-of-lt, zero-add, add-comm, mod-lt, not-suc-le-zero, le-of-suc-le-suc, lt-of-le-of-lt}
 use native.Mathlib.Omega.{arith}
 use borrow.Author.Tests.{ltb-true, ltb-false}
-use lib.Bits.{bitAnd, bitOr, and-le-r, or-lt}
+use lib.Bits.{bitXor, differ, and-le-r, xor-lt}
 use lib.Dec.{ltb}
 use lib.ListN.{length, getD}
-use lib.Pow.{pow-pos, shl-exact, ones-sub-lt}
+use lib.Pow.{pow-pos, shl-exact}
 use Rattle.bitplanes.specs.Turned.{bitAt, turnedGroup}
-use Rattle.bitplanes.specs.BitLaws.{two, kept, cut, or-left, or-right, bit-shr, bit-shl, bit-shl-low}
+use Rattle.bitplanes.specs.BitLaws.{two, bit-lt, bit-xor, bit-shr, bit-shl, bit-shl-low, bit-mod, digits-differ, differ-none, kept, cut}
 use Rattle.bitplanes.specs.IndexLaws.{at, at-lt, taking, taking-same, taking-up, taking-down, taking-lt, mixed, mixed-taking}
-use Rattle.bitplanes.specs.MaskLaws.{sizes, mask-bit, rest-bit}
+use Rattle.bitplanes.specs.MaskLaws.{sizes, mask-bit}
 use Rattle.bitplanes.specs.PlaneLaws.{group-is}
-use Rattle.bitplanes.specs.Rounds.{Width, by1, by2, by4, by8, by16, maskOf, lowerOf, upperOf, chosen, exchangedWord, exchangedFrom, exchanged, fiveRounds}
+use Rattle.bitplanes.specs.Rounds.{Width, by1, by2, by4, by8, by16, maskOf, crossing, lowerOf, upperOf, chosen, exchangedWord, exchangedFrom, exchanged, fiveRounds}
 
 pub below-or : (k w : ℕ) → (k < w) ⊎ (w ≤ k)
 below-or k w = by-test (ltb k w) refl
@@ -48,58 +48,70 @@ whole : (w : ℕ) → w ≤ 16 → 32 - w + w ≤ 32
 whole w h = omega arith
 
 module _ (w : ℕ) (v : Width w) (x y : ℕ) where
-  lower-plain : lowerOf w x y ≡ bitOr (bitAnd x (maskOf w)) (bitAnd y (maskOf w) * 2 ^ w)
-  unfolding lowerOf
-  lower-plain =
-      ap (bitOr (bitAnd x (maskOf w))) (shl-exact (32 - w) w 32 (lt-of-le-of-lt (and-le-r y (maskOf w)) (sizes w v .room)) (whole w (sizes w v .small)))
+  -- what is crossed at k, in even blocks and in odd ones
+  crossing-even : (k : ℕ) → k < 32 → at w k ≡ 0 → bitAt k (crossing w x y) ≡ differ (bitAt (w + k) x) (bitAt k y)
+  unfolding crossing
+  crossing-even k h e =
+      kept k (bitXor (x / 2 ^ w) y) (maskOf w) (mask-bit w k v h 0 e) ∙ bit-xor k (x / 2 ^ w) y ∙ ap (λ (b : ℕ). differ b (bitAt k y)) (bit-shr k w x)
 
-  shifted-even : (k : ℕ) → k < 32 → at w k ≡ 0 → (k < w) ⊎ (w ≤ k) → bitAt k (bitAnd y (maskOf w) * 2 ^ w) ≡ 0
-  shifted-even k h e (inl l) = bit-shl-low k w (bitAnd y (maskOf w)) l
-  shifted-even k h e (inr l) =
+  crossing-odd : (k : ℕ) → k < 32 → at w k ≡ 1 → bitAt k (crossing w x y) ≡ 0
+  unfolding crossing
+  crossing-odd k h e = cut k (bitXor (x / 2 ^ w) y) (maskOf w) (mask-bit w k v h 1 e)
+
+  crossing-le : crossing w x y ≤ maskOf w
+  unfolding crossing
+  crossing-le = and-le-r (bitXor (x / 2 ^ w) y) (maskOf w)
+
+  -- the same a block up
+  up-plain : crossing w x y * 2 ^ w % 2 ^ 32 ≡ crossing w x y * 2 ^ w
+  up-plain = shl-exact (32 - w) w 32 (lt-of-le-of-lt crossing-le (sizes w v .room)) (whole w (sizes w v .small))
+
+  up-bit : (k : ℕ) → w ≤ k → bitAt k (crossing w x y * 2 ^ w % 2 ^ 32) ≡ bitAt (k - w) (crossing w x y)
+  up-bit k l =
       let s : k ≡ w + (k - w) = omega arith in
-      ap (λ (z : ℕ). bitAt z (bitAnd y (maskOf w) * 2 ^ w)) s ∙ bit-shl (k - w) w (bitAnd y (maskOf w))
-      ∙ cut (k - w) y (maskOf w) (mask-bit w (k - w) v (omega arith) 1 (below-even w k (sizes w v .above) e l))
+      ap (bitAt k) up-plain ∙ ap (λ (z : ℕ). bitAt z (crossing w x y * 2 ^ w)) s ∙ bit-shl (k - w) w (crossing w x y)
 
-  shifted-odd : (k : ℕ) → k < 32 → at w k ≡ 1 → bitAt k (bitAnd y (maskOf w) * 2 ^ w) ≡ bitAt (k - w) y
-  shifted-odd k h e =
+  up-even : (k : ℕ) → k < 32 → at w k ≡ 0 → (k < w) ⊎ (w ≤ k) → bitAt k (crossing w x y * 2 ^ w % 2 ^ 32) ≡ 0
+  up-even k h e (inl l) = ap (bitAt k) up-plain ∙ bit-shl-low k w (crossing w x y) l
+  up-even k h e (inr l) = up-bit k l ∙ crossing-odd (k - w) (omega arith) (below-even w k (sizes w v .above) e l)
+
+  up-odd : (k : ℕ) → k < 32 → at w k ≡ 1 → bitAt k (crossing w x y * 2 ^ w % 2 ^ 32) ≡ differ (bitAt k x) (bitAt (k - w) y)
+  up-odd k h e =
       let u : (w ≤ k) × (at w (k - w) ≡ 0) = below-odd w k (sizes w v .above) e in
-      let s : k ≡ w + (k - w) = omega arith in
-      ap (λ (z : ℕ). bitAt z (bitAnd y (maskOf w) * 2 ^ w)) s ∙ bit-shl (k - w) w (bitAnd y (maskOf w))
-      ∙ kept (k - w) y (maskOf w) (mask-bit w (k - w) v (omega arith) 0 (u .1))
+      let s : w + (k - w) ≡ k = omega arith in
+      up-bit k (u .0) ∙ crossing-even (k - w) (omega arith) (u .1) ∙ ap (λ (n : ℕ). differ (bitAt n x) (bitAt (k - w) y)) s
+
+  lower-bit : (k : ℕ) → k < 32 → bitAt k (lowerOf w x y) ≡ differ (bitAt k x) (bitAt k (crossing w x y * 2 ^ w % 2 ^ 32))
+  unfolding lowerOf
+  lower-bit k h =
+      bit-xor k (x % 2 ^ 32) (crossing w x y * 2 ^ w % 2 ^ 32) ∙ ap (λ (b : ℕ). differ b (bitAt k (crossing w x y * 2 ^ w % 2 ^ 32))) (bit-mod k 32 x h)
 
   lower-even : (k : ℕ) → k < 32 → at w k ≡ 0 → bitAt k (lowerOf w x y) ≡ bitAt k x
-  lower-even k h e =
-      ap (bitAt k) lower-plain ∙ or-left k (bitAnd x (maskOf w)) (bitAnd y (maskOf w) * 2 ^ w) (shifted-even k h e (below-or k w))
-      ∙ kept k x (maskOf w) (mask-bit w k v h 0 e)
+  lower-even k h e = lower-bit k h ∙ ap (differ (bitAt k x)) (up-even k h e (below-or k w)) ∙ differ-none (bitAt k x)
 
   lower-odd : (k : ℕ) → k < 32 → at w k ≡ 1 → bitAt k (lowerOf w x y) ≡ bitAt (k - w) y
   lower-odd k h e =
-      ap (bitAt k) lower-plain ∙ or-right k (bitAnd x (maskOf w)) (bitAnd y (maskOf w) * 2 ^ w) (cut k x (maskOf w) (mask-bit w k v h 1 e))
-      ∙ shifted-odd k h e
+      lower-bit k h ∙ ap (differ (bitAt k x)) (up-odd k h e) ∙ digits-differ (bitAt k x) (bitAt (k - w) y) (bit-lt k x) (bit-lt (k - w) y) .1
+
+  upper-bit : (k : ℕ) → k < 32 → bitAt k (upperOf w x y) ≡ differ (bitAt k y) (bitAt k (crossing w x y))
+  unfolding upperOf
+  upper-bit k h = bit-xor k (y % 2 ^ 32) (crossing w x y) ∙ ap (λ (b : ℕ). differ b (bitAt k (crossing w x y))) (bit-mod k 32 y h)
 
   upper-even : (k : ℕ) → k < 32 → at w k ≡ 0 → bitAt k (upperOf w x y) ≡ bitAt (k + w) x
-  unfolding upperOf
   upper-even k h e =
-      or-left k (bitAnd (x / 2 ^ w) (maskOf w)) (bitAnd y (2 ^ 32 - 1 - maskOf w)) (cut k y (2 ^ 32 - 1 - maskOf w) (rest-bit w k v h 0 e))
-      ∙ kept k (x / 2 ^ w) (maskOf w) (mask-bit w k v h 0 e) ∙ bit-shr k w x ∙ ap (λ (z : ℕ). bitAt z x) (add-comm w k)
+      upper-bit k h ∙ ap (differ (bitAt k y)) (crossing-even k h e)
+      ∙ digits-differ (bitAt (w + k) x) (bitAt k y) (bit-lt (w + k) x) (bit-lt k y) .2 ∙ ap (λ (z : ℕ). bitAt z x) (add-comm w k)
 
   upper-odd : (k : ℕ) → k < 32 → at w k ≡ 1 → bitAt k (upperOf w x y) ≡ bitAt k y
-  unfolding upperOf
-  upper-odd k h e =
-      or-right k (bitAnd (x / 2 ^ w) (maskOf w)) (bitAnd y (2 ^ 32 - 1 - maskOf w)) (cut k (x / 2 ^ w) (maskOf w) (mask-bit w k v h 1 e))
-      ∙ kept k y (2 ^ 32 - 1 - maskOf w) (rest-bit w k v h 1 e)
+  upper-odd k h e = upper-bit k h ∙ ap (differ (bitAt k y)) (crossing-odd k h e) ∙ differ-none (bitAt k y)
 
   lower-lt : lowerOf w x y < 2 ^ 32
   unfolding lowerOf
-  lower-lt =
-      or-lt 32 (bitAnd x (maskOf w)) (bitAnd y (maskOf w) * 2 ^ w % 2 ^ 32) (lt-of-le-of-lt (and-le-r x (maskOf w)) (sizes w v .fits))
-      (mod-lt (bitAnd y (maskOf w) * 2 ^ w) (pow-pos 32))
+  lower-lt = xor-lt 32 (x % 2 ^ 32) (crossing w x y * 2 ^ w % 2 ^ 32) (mod-lt x (pow-pos 32)) (mod-lt (crossing w x y * 2 ^ w) (pow-pos 32))
 
   upper-lt : upperOf w x y < 2 ^ 32
   unfolding upperOf
-  upper-lt =
-      or-lt 32 (bitAnd (x / 2 ^ w) (maskOf w)) (bitAnd y (2 ^ 32 - 1 - maskOf w)) (lt-of-le-of-lt (and-le-r (x / 2 ^ w) (maskOf w)) (sizes w v .fits))
-      (lt-of-le-of-lt (and-le-r y (2 ^ 32 - 1 - maskOf w)) (ones-sub-lt 32 (maskOf w)))
+  upper-lt = xor-lt 32 (y % 2 ^ 32) (crossing w x y) (mod-lt y (pow-pos 32)) (lt-of-le-of-lt crossing-le (sizes w v .fits))
 
 -- ---- a group after the round
 pub even-odd : (w i : ℕ) → (at w i ≡ 0) ⊎ (at w i ≡ 1)

@@ -3,7 +3,7 @@
 use mathlib.Core.List.{List, [], _∷_}
 use mathlib.Core.Path.{_≡_}
 use Prim.Native.Nat.{ℕ, zero, suc, _+_, _-_, _*_, _/_, _%_, _^_, _<_}
-use lib.Bits.{bitAnd, bitOr}
+use lib.Bits.{bitAnd, bitXor}
 use lib.ListN.{getD}
 
 -- the widths of the rounds
@@ -23,13 +23,17 @@ pub record First (w p r : ℕ) : Type 0 where
 unfoldable pub maskOf : ℕ → ℕ
 maskOf w = (2 ^ 32 - 1) / (2 ^ w + 1)
 
--- of two words x and y that are w apart: the lower one keeps its even blocks, and its odd blocks are y's even ones
-unfoldable pub lowerOf : ℕ → ℕ → ℕ → ℕ
-lowerOf w x y = bitOr (bitAnd x (maskOf w)) (bitAnd y (maskOf w) * 2 ^ w % 2 ^ 32)
+-- of two words x and y that are w apart: where the odd blocks of x and the even ones of y differ, bits at the even blocks
+unfoldable pub crossing : ℕ → ℕ → ℕ → ℕ
+crossing w x y = bitAnd (bitXor (x / 2 ^ w) y) (maskOf w)
 
--- the upper one keeps its odd blocks, and its even blocks are x's odd ones
+-- put to both by exclusive or it exchanges those blocks: the lower word keeps its even blocks, and its odd blocks are y's even ones;
+unfoldable pub lowerOf : ℕ → ℕ → ℕ → ℕ
+lowerOf w x y = bitXor (x % 2 ^ 32) (crossing w x y * 2 ^ w % 2 ^ 32)
+
+-- the upper word keeps its odd blocks, and its even blocks are x's odd ones
 unfoldable pub upperOf : ℕ → ℕ → ℕ → ℕ
-upperOf w x y = bitOr (bitAnd (x / 2 ^ w) (maskOf w)) (bitAnd y (2 ^ 32 - 1 - maskOf w))
+upperOf w x y = bitXor (y % 2 ^ 32) (crossing w x y)
 
 -- x for 0, else y
 abbrev pub chosen : ℕ → ℕ → ℕ → ℕ

@@ -6,7 +6,7 @@ ghost use mathlib.Core.List.{_++_};
 ghost use Prim.Native.Nat.{_≤_, _<_};
 ghost use lib.ListN.{length, drop};
 ghost use Rattle.bitplanes.specs.Turned.{turnedGroup, turnedInto};
-ghost use Rattle.bitplanes.specs.Rounds.{Width, First, maskOf, lowerOf, upperOf, exchanged};
+ghost use Rattle.bitplanes.specs.Rounds.{Width, First, maskOf, lowerOf, upperOf, crossing, exchanged};
 
 // s to the front of d.
 fn copy(s: &[u32], d: &mut [u32])
@@ -29,13 +29,22 @@ fn first(p: usize, w: usize) -> usize
     2 * p - (p & (w - 1))
 }
 
+// Where the odd blocks of x and the even ones of y differ, bits at the even blocks.
+fn crossed(x: u32, y: u32, w: usize, m: u32) -> u32
+    requires { ⌜ Width w ⌝ }
+    requires { ⌜ m ≡ maskOf w ⌝ }
+    ensures { λ r. ⌜ r ≡ crossing w x y ⌝ }
+{
+    ((x >> w) ^ y) & m
+}
+
 // The lower word x of a pair, with its odd blocks from the even ones of y.
 fn lower(x: u32, y: u32, w: usize, m: u32) -> u32
     requires { ⌜ Width w ⌝ }
     requires { ⌜ m ≡ maskOf w ⌝ }
     ensures { λ r. ⌜ r ≡ lowerOf w x y ⌝ }
 {
-    (x & m) | ((y & m) << w)
+    x ^ (crossed(x, y, w, m) << w)
 }
 
 // The upper word y of a pair, with its even blocks from the odd ones of x.
@@ -44,7 +53,7 @@ fn upper(x: u32, y: u32, w: usize, m: u32) -> u32
     requires { ⌜ m ≡ maskOf w ⌝ }
     ensures { λ r. ⌜ r ≡ upperOf w x y ⌝ }
 {
-    ((x >> w) & m) | (y & !m)
+    y ^ crossed(x, y, w, m)
 }
 
 // One round, of width w: in each pair of words w apart, the odd blocks of w bits of the lower word and the even ones of the upper word

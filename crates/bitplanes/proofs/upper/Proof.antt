@@ -1,19 +1,18 @@
--- `bitplanes::upper` meets its contract: the definition at the mask that it is handed.
-use native.Mathlib.Omega.{arith}
+-- `bitplanes::upper` meets its contract: the definition, of a word of 32 bits.
+use mathlib.Core.Path.{sym, ap₂}
+use native.Mathlib.Nat.{mod-eq-of-lt}
+use lib.Bits.{bitXor}
+use borrow.Author.Needs.{needs}
 use Rattle.bitplanes.specs.Rounds.{upperOf}
-use Rattle.bitplanes.specs.MaskLaws.{sizes}
 use Rattle.bitplanes.proofs.upper.Statement.{statement}
 use Rattle.bitplanes.proofs.upper.Tie as tie
 
-cast-result : tie.Need-cast-result
-cast-result c = record { fits = omega (arith, sizes (c .args .w) (c .pre .0) .small) }
-
-shr-result : tie.Need-shr-result
-shr-result c = omega (arith, sizes (c .args .w) (c .pre .0) .small)
+crossed-requires : tie.Need-crossed-requires
+crossed-requires c κs = search needs
 
 returns : tie.Need-returns
 unfolding upperOf
-returns c = rw (c .pre .1)
+returns c = ap₂ bitXor (sym (mod-eq-of-lt (c .before .fits .y .fits))) (c .crossed .ensures)
 
 pub upper-spec : {M : Type 1} → statement M
-upper-spec = tie.close (tie.spec cast-result shr-result returns)
+upper-spec = tie.close (tie.spec crossed-requires returns)
