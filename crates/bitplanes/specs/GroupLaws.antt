@@ -1,8 +1,8 @@
 -- A list whose groups of s are made anew by f, each group for itself and as long as before: laws over s and f.
 use mathlib.Core.Path.{_≡_, refl, sym, ap, ap₂, _∙_, subst}
-use mathlib.Core.List.{List, _++_, append-assoc}
+use mathlib.Core.List.{List, [], _∷_, _++_, append-assoc}
 use Prim.Native.Nat.{ℕ, zero, suc, _+_, _-_, _*_, _≤_, _<_}
-use native.Mathlib.Nat.{suc-mul, zero-mul, add-comm, zero-add, not-suc-le-zero, le-of-suc-le-suc}
+use native.Mathlib.Nat.{suc-mul, zero-mul, add-comm, zero-add, suc-add, not-suc-le-zero, le-of-suc-le-suc}
 use native.Mathlib.Omega.{arith}
 use lib.ListN.{length, getD, take, drop, length-append, length-drop, List·getD-append}
 use lib.Seq.{drop-drop, length-take-le, take-at, drop-at, take-append-le, drop-append-le, getD-append-add, getD-take, getD-drop}
@@ -37,6 +37,23 @@ module _ (s : ℕ) (f : List ℕ → List ℕ) where
       (take-append-le s ts us (full n s (length ts) h .0)) (drop-append-le s ts us (full n s (length ts) h .0))
       ∙ ap (λ (x : List ℕ). f (take s ts) ++ x) (groups-append n (drop s ts) us (rest-full n s ts h))
       ∙ sym (append-assoc (f (take s ts)) (inGroups s f n (drop s ts)) us)
+
+  -- a list that ends with a group, and what lies behind it
+  pub groups-split : (m n : ℕ) (ts us : List ℕ) → length ts ≡ m * s → inGroups s f (m + n) (ts ++ us) ≡ inGroups s f m ts ++ inGroups s f n us
+  unfolding inGroups
+  groups-split zero n ts us l =
+      ap₂ (λ (k : ℕ) (x : List ℕ). inGroups s f k (x ++ us)) (zero-add n) (none ts (l ∙ zero-mul s)) ∙ ap (λ (x : List ℕ). x ++ inGroups s f n us) (sym (none ts (l ∙ zero-mul s)))
+    where
+      none : (xs : List ℕ) → length xs ≡ 0 → xs ≡ []
+      none [] e = refl
+      none (x ∷ xs) e = absurd (omega arith)
+  groups-split (suc m) n ts us l =
+      let h : s ≤ length ts = full m s (length ts) (omega arith) .0 in
+      let d : length (drop s ts) ≡ m * s = length-drop s ts ∙ ap (λ (x : ℕ). x - s) (l ∙ suc-mul m s) ∙ (omega arith) in
+      ap (λ (k : ℕ). inGroups s f k (ts ++ us)) (suc-add m n)
+      ∙ ap₂ (λ (x y : List ℕ). f x ++ inGroups s f (m + n) y) (take-append-le s ts us h) (drop-append-le s ts us h)
+      ∙ ap (λ (x : List ℕ). f (take s ts) ++ x) (groups-split m n (drop s ts) us d)
+      ∙ sym (append-assoc (f (take s ts)) (inGroups s f m (drop s ts)) (inGroups s f n us))
 
 -- ---- each group for itself
 module _ (s : ℕ) (f : List ℕ → List ℕ) (keeps : Keeps s f) where

@@ -53,3 +53,7 @@ group-is n ts us lt lu small same =
     let l : i < n = subst (λ (x : ℕ). i < x) lu h in
     bits-same n (getD us i 0) (getD (planes n 0 ts) i 0) (small i l) (group-lt n i ts lt l)
     (λ j k. same i j l k ∙ sym (group-bit n j i ts l)))
+
+-- turning a group again gives it back
+pub group-back : (n : ℕ) (ts : List ℕ) → length ts ≡ n → ((i : ℕ) → i < n → getD ts i 0 < 2 ^ n) → planes n 0 (planes n 0 ts) ≡ ts
+group-back n ts l small = sym (group-is n (planes n 0 ts) ts (planes-length n 0 ts) l small (λ i j h k. sym (group-bit n i j ts k)))

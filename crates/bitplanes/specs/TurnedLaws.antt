@@ -1,16 +1,16 @@
 -- Turning, at every length: what Promise claims. A list and its turned list have each bit at its place in the other, and only one list has them there;
 -- so turning again gives the list back.
-use mathlib.Core.Path.{_≡_, refl, sym, ap, _∙_, subst}
+use mathlib.Core.Path.{_≡_, refl, sym, ap, ap₂, _∙_, subst}
 use mathlib.Core.Bool.{Bool, cond}
 use mathlib.Core.Logic.{_⊎_, inl, inr}
-use mathlib.Core.List.{List, _++_}
+use mathlib.Core.List.{List, _++_, append-nil}
 use Prim.Native.Nat.{ℕ, _+_, _-_, _*_, _/_, _%_, _^_, _≤_, _<_}
 use native.Mathlib.Omega.{arith}
 use borrow.Author.Tests.{le-ltb}
 use lib.Dec.{ltb}
-use lib.ListN.{length, getD, take, drop, length-drop}
-use lib.Seq.{ext-getD, getD-take, getD-drop, length-take-le}
-use Rattle.bitplanes.specs.Turned.{bitAt, turnedGroup, inGroups, turned, turnedInto}
+use lib.ListN.{length, getD, take, drop, length-drop, drop-of-length-le}
+use lib.Seq.{take-all, ext-getD, getD-take, getD-drop, length-take-le}
+use Rattle.bitplanes.specs.Turned.{bitAt, turnedGroup, inGroups, turned, filled, turnedInto}
 use Rattle.bitplanes.specs.Promise.{Words, Placed, EachBitPlaced, OnlyTurned, WordsKept, TurnsBack, ReadBack}
 use Rattle.bitplanes.specs.BitLaws.{bits-same}
 use Rattle.bitplanes.specs.PlaneLaws.{planes-length, group-bit, group-lt}
@@ -119,3 +119,18 @@ read-back ts old w h =
     ap (λ (n : ℕ). cond (ltb (length old) n) (22, old) (0, again ++ drop n old)) (turned-length ts)
     ∙ ap (λ (b : Bool). cond b (22, old) (0, again ++ drop (length ts) old)) (le-ltb (length old) (length ts) h)
     ∙ ap (λ (l : List ℕ). (0, l ++ drop (length ts) old)) (turned-back ts w)
+
+-- ---- for callers
+-- what a call leaves in an output that is long enough
+pub filled-long : (input all old new : List ℕ) (r : ℕ) → length input ≤ length old → (r, new) ≡ filled input all old → (r ≡ 0) × (new ≡ all ++ drop (length input) old)
+filled-long input all old new r h e =
+    let f : _≡_ {A = ℕ × List ℕ} (r, new) (0, all ++ drop (length input) old) =
+    e ∙ ap (λ (b : Bool). cond b (22, old) (0, all ++ drop (length input) old)) (le-ltb (length old) (length input) h) in
+    (ap (λ (p : ℕ × List ℕ). p .0) f, ap (λ (p : ℕ × List ℕ). p .1) f)
+
+-- one group alone
+pub turned-one : (ts : List ℕ) → length ts ≡ 32 → turned ts ≡ turnedGroup ts
+unfolding inGroups
+turned-one ts l =
+    ap (λ (n : ℕ). inGroups 32 turnedGroup (n / 32) ts) l
+    ∙ ap₂ (λ (x y : List ℕ). turnedGroup x ++ y) (take-all 32 ts (omega arith)) (drop-of-length-le ts {i = 32} (omega arith)) ∙ append-nil (turnedGroup ts)

@@ -9,3 +9,4 @@ pub mod LogLaws
 pub mod WrittenLaws
 pub mod CarriedLaws
 pub mod ByteLaws
+pub mod WordBytesLaws

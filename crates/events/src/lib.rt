@@ -4,6 +4,7 @@ mod parts;
 
 ghost use mathlib.Core.Path.{_≡_};
 ghost use Rattle.events.specs.Words.{wordAt};
+ghost use Rattle.events.specs.Bytes.{leastFirst};
 ghost use Rattle.events.specs.Log.{freshPending, kept, refused, happened, acceptedOf, outOfOrder, takenOf, endOf};
 
 // What the engine works on.
@@ -57,6 +58,18 @@ pub fn word_at(b0: u8, b1: u8, b2: u8, b3: u8) -> u32
     ensures { λ r. ⌜ r ≡ wordAt b0 b1 b2 b3 ⌝ }
 {
     (b0 as u32) + (b1 as u32) * 0x100 + (b2 as u32) * 0x1_0000 + (b3 as u32) * 0x100_0000
+}
+
+// The four bytes of a word, the lowest first.
+pub fn bytes_of(w: u32) -> [u8; 4]
+    ensures { λ r. ⌜ r ≡ leastFirst w ⌝ }
+{
+    [
+        (w % 256) as u8,
+        (w / 256 % 256) as u8,
+        (w / 65536 % 256) as u8,
+        (w / 16777216) as u8,
+    ]
 }
 
 // A word that is refused.

@@ -1,4 +1,4 @@
--- The bytes of words are read as these words; and how the code takes them, one word after the other.
+-- How the code puts the words of a table and of a log, one after the other.
 use mathlib.Core.Path.{_≡_, refl, sym, ap, _∙_}
 use mathlib.Core.Bool.{Bool, true, false, _&&_}
 use mathlib.Core.List.{List, [], _∷_, _++_, map, append-assoc, append-nil, map-append}
@@ -13,9 +13,8 @@ use borrow.Author.Tests.{leb-true, le-leb, lt-leb}
 use Rattle.text.specs.HexList.{allHexWords, areHex, hexesOf}
 use Rattle.text.specs.HexListLaws.{hexes-length}
 use Rattle.decimal.specs.DigitLaws.{both-true}
-use Rattle.events.specs.Bytes.{wordsIn}
-use Rattle.events.specs.Words.{wordAt}
-use Rattle.events.specs.Written.{AllWords}
+use Rattle.events.specs.Bytes.{leastFirst, bytesOf}
+use Rattle.events.specs.WordBytesLaws.{bytes-length, bytes-more}
 use Rattle.integers.specs.TwosComplement.{bitsOf}
 use Rattle.text.specs.Hex.{isHex, hexOf}
 use Rattle.text.specs.Put.{Put}
@@ -23,27 +22,7 @@ use Rattle.text.specs.PutLaws.{put-start, put-none, put-both, put-front, put-le
 use Rattle.text.specs.WordSteps.{wordOf, restOf}
 use Rattle.text.specs.WordLaws.{no-word, some-word}
 use Rattle.text.specs.Words.{wordsOf}
-use Rattle.sheet.specs.LogWords.{leastFirst, bytesOf, mostWords, isLog}
-
--- ---- THE BYTES OF WORDS ARE READ AS THESE WORDS
-word-bytes : (w : ℕ) → w < 2 ^ 32 → wordAt (w % 256) (w / 256 % 256) (w / 65536 % 256) (w / 16777216) ≡ w
-word-bytes w h = omega arith
-
-pub bytes-words : (ws : List ℕ) → AllWords ws → wordsIn (bytesOf ws) ≡ ws
-unfolding wordsIn bytesOf
-bytes-words [] a = refl
-bytes-words (w ∷ ws) a = rw (word-bytes w (a .0), bytes-words ws (a .1))
-
--- ---- the bytes, put one word after the other
-bytes-length : (ws : List ℕ) → length (bytesOf ws) ≡ 4 * length ws
-unfolding bytesOf
-bytes-length [] = refl
-bytes-length (w ∷ ws) = omega (arith, bytes-length ws)
-
-bytes-more : (ws : List ℕ) (w : ℕ) → bytesOf (ws ++ (w ∷ [])) ≡ bytesOf ws ++ leastFirst w
-unfolding bytesOf
-bytes-more [] w = refl
-bytes-more (v ∷ ws) w = ap (λ (l : List ℕ). leastFirst v ++ l) (bytes-more ws w)
+use Rattle.sheet.specs.LogWords.{mostWords, isLog}
 
 -- a table's words
 abbrev pub tableBytesOf : List ℤ → List ℕ

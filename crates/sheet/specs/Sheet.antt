@@ -45,7 +45,8 @@ use Rattle.sheet.specs.declared.orders.Question.the-variants.{Build, Fau
 use Rattle.sheet.specs.declared.orders.Word.{Word}
 use Rattle.sheet.specs.declared.orders.Word.the-variants.{Plain, Heading, Log, End, Cut, Extremes, Asked}
 use Rattle.sheet.specs.declared.Sheet.{Sheet}
-use Rattle.sheet.specs.LogWords.{bytesOf, isLog}
+use Rattle.events.specs.Bytes.{bytesOf}
+use Rattle.sheet.specs.LogWords.{isLog}
 use Rattle.sheet.specs.Orders.{buildWord, readWord, diagnoseWord, extremesWord, wordNamed}
 
 -- ---- what is kept

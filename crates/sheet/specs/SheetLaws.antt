@@ -53,7 +53,8 @@ use Rattle.sheet.specs.declared.orders.Word.{Word}
 use Rattle.sheet.specs.declared.orders.Word.the-variants.{Plain, Heading, Log, End, Cut, Extremes, Asked}
 use Rattle.sheet.specs.declared.Sheet.{Sheet}
 use Rattle.sheet.specs.LogWordLaws.{log-fits}
-use Rattle.sheet.specs.LogWords.{bytesOf, isLog}
+use Rattle.events.specs.Bytes.{bytesOf}
+use Rattle.sheet.specs.LogWords.{isLog}
 use Rattle.sheet.specs.Orders.{wordNamed}
 use Rattle.sheet.specs.Sheet.{withRun, wrongLine, loadedBy, afterStart, startText, afterPiece, pieceOf, wordsBehind, afterLog, logText, fullEnd, numbersText, buildText, readText, diagnoseText, questionText, numberBehind, answerText, askedText, givenBy, afterCut, toldBy, cutText, extremesText, afterEvent, eventText, afterPlain, plainText, afterWord, wordText, afterLine, lineText, room}
 

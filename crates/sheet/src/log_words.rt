@@ -1,4 +1,4 @@
-// Words of 32 bits as bytes, lowest byte first: a table's, and those of a log, which a line gives as hex digits. Uses `integers` and `text`.
+// Words of 32 bits as bytes, lowest byte first: a table's, and those of a log, which a line gives as hex digits. Uses `integers`, `events` and `text`.
 use integers::twos_complement;
 use text::hex;
 use text::words;
@@ -11,19 +11,15 @@ ghost use Rattle.integers.specs.TwosComplement.{bitsOf};
 ghost use Rattle.text.specs.Put.{Put};
 ghost use Rattle.text.specs.Words.{wordsOf};
 ghost use Rattle.text.specs.HexList.{hexesOf};
-ghost use Rattle.sheet.specs.LogWords.{leastFirst, bytesOf, isLog};
+ghost use Rattle.events.specs.Bytes.{leastFirst, bytesOf};
+ghost use Rattle.sheet.specs.LogWords.{isLog};
 
 // Puts a word as four bytes.
 fn put_word(out: &mut [u8], at: usize, w: u32) -> usize
     requires { ⌜ at + 4 ≤ length (now out) ⌝ }
     ensures { λ r. ⌜ Put (now (out .entry)) at (leastFirst w) r (now (out .exit)) ⌝ }
 {
-    let bytes = [
-        (w % 256) as u8,
-        (w / 256 % 256) as u8,
-        (w / 65536 % 256) as u8,
-        (w / 16777216) as u8,
-    ];
+    let bytes = events::bytes_of(w);
     text::put_bytes(out, at, &bytes)
 }
 

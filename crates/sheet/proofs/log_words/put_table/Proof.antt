@@ -10,7 +10,7 @@ use Rattle.integers.specs.TwosComplement.{bitsOf}
 use lib.Seq.{take-all, length-take-le}
 use Rattle.text.specs.Put.{Put}
 use Rattle.text.specs.PutLaws.{put-none, put-both, put-length}
-use Rattle.sheet.specs.LogWords.{bytesOf}
+use Rattle.events.specs.Bytes.{bytesOf}
 use Rattle.sheet.specs.LogWordLaws.{tableBytesOf, table-length, table-next}
 use Rattle.sheet.proofs.log_words.put_table.Statement.{statement}
 use Rattle.sheet.proofs.log_words.put_table.Tie as tie

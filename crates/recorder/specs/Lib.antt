@@ -1,0 +1,5 @@
+-- The modules of this crate's definitions and laws, in the order in which to read them.
+pub mod Recorded
+pub mod Promise
+pub mod LoopLaws
+pub mod RecordedLaws
