@@ -2,7 +2,7 @@
 pub mod Turned
 pub mod Promise
 pub mod Cases
-pub mod Rounds
+pub mod RoundSteps
 pub mod BitLaws
 pub mod PlaneLaws
 pub mod GroupLaws

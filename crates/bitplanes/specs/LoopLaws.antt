@@ -13,7 +13,7 @@ use lib.ListN.{length, getD, take, drop, set}
 use lib.Seq.{set-at, drop-cons, take-suc, append-snoc, length-take-le, getD-set-same, getD-set-other, lt-length-set, ext-getD}
 use Rattle.bitplanes.specs.IndexLaws.{above, at, below, at-lt, joined, parts, joined-above, joined-at, joined-below, joined-lt, joined-one, above-lt}
 use Rattle.bitplanes.specs.MaskLaws.{sizes}
-use Rattle.bitplanes.specs.Rounds.{Width, First, lowerOf, upperOf, chosen, exchangedWord, exchanged}
+use Rattle.bitplanes.specs.RoundSteps.{Width, First, lowerOf, upperOf, chosen, exchangedWord, exchanged}
 use Rattle.bitplanes.specs.RoundLaws.{even-odd, below-or, exchanged-length, exchanged-at}
 
 -- ---- a copy: one word more

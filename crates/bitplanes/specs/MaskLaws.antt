@@ -9,7 +9,7 @@ use borrow.Author.Tests.{eqb-true, eqb-false}
 use lib.Dec.{lit<, lit≤, eqb}
 use Rattle.bitplanes.specs.Turned.{bitAt}
 use Rattle.bitplanes.specs.IndexLaws.{at}
-use Rattle.bitplanes.specs.Rounds.{Width, by1, by2, by4, by8, by16, maskOf}
+use Rattle.bitplanes.specs.RoundSteps.{Width, by1, by2, by4, by8, by16, maskOf}
 
 -- ---- the widths
 pub record Sizes (w : ℕ) : Type 0 where

@@ -17,7 +17,7 @@ use Rattle.bitplanes.specs.BitLaws.{two, bit-lt, bit-xor, bit-shr, bit-s
 use Rattle.bitplanes.specs.IndexLaws.{at, at-lt, taking, taking-same, taking-up, taking-down, taking-lt, mixed, mixed-taking}
 use Rattle.bitplanes.specs.MaskLaws.{sizes, mask-bit}
 use Rattle.bitplanes.specs.PlaneLaws.{group-is}
-use Rattle.bitplanes.specs.Rounds.{Width, by1, by2, by4, by8, by16, maskOf, crossing, lowerOf, upperOf, chosen, exchangedWord, exchangedFrom, exchanged, fiveRounds}
+use Rattle.bitplanes.specs.RoundSteps.{Width, by1, by2, by4, by8, by16, maskOf, crossing, lowerOf, upperOf, chosen, exchangedWord, exchangedFrom, exchanged, fiveRounds}
 
 pub below-or : (k w : ℕ) → (k < w) ⊎ (w ≤ k)
 below-or k w = by-test (ltb k w) refl

@@ -6,7 +6,7 @@ ghost use mathlib.Core.List.{_++_};
 ghost use Prim.Native.Nat.{_≤_, _<_};
 ghost use lib.ListN.{length, drop};
 ghost use Rattle.bitplanes.specs.Turned.{turnedGroup, turnedInto};
-ghost use Rattle.bitplanes.specs.Rounds.{Width, First, maskOf, lowerOf, upperOf, crossing, exchanged};
+ghost use Rattle.bitplanes.specs.RoundSteps.{Width, First, maskOf, lowerOf, upperOf, crossing, exchanged};
 
 // s to the front of d.
 fn copy(s: &[u32], d: &mut [u32])

@@ -1,6 +1,6 @@
 -- `bitplanes::crossed` meets its contract: the definition at the mask that it is handed.
 use native.Mathlib.Omega.{arith}
-use Rattle.bitplanes.specs.Rounds.{crossing}
+use Rattle.bitplanes.specs.RoundSteps.{crossing}
 use Rattle.bitplanes.specs.MaskLaws.{sizes}
 use Rattle.bitplanes.proofs.crossed.Statement.{statement}
 use Rattle.bitplanes.proofs.crossed.Tie as tie

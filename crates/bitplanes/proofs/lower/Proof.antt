@@ -5,7 +5,7 @@ use native.Mathlib.Nat.{mod-eq-of-lt}
 use native.Mathlib.Omega.{arith}
 use lib.Bits.{bitXor}
 use borrow.Author.Needs.{needs}
-use Rattle.bitplanes.specs.Rounds.{lowerOf}
+use Rattle.bitplanes.specs.RoundSteps.{lowerOf}
 use Rattle.bitplanes.specs.MaskLaws.{sizes}
 use Rattle.bitplanes.proofs.lower.Statement.{statement}
 use Rattle.bitplanes.proofs.lower.Tie as tie

@@ -1,6 +1,6 @@
 -- `bitplanes::turn_group` meets its contract: the five rounds turn a group (RoundLaws, five-rounds).
 use mathlib.Core.Path.{refl, ap, _∙_}
-use Rattle.bitplanes.specs.Rounds.{by1, by2, by4, by8, by16, maskOf, exchanged}
+use Rattle.bitplanes.specs.RoundSteps.{by1, by2, by4, by8, by16, maskOf, exchanged}
 use Rattle.bitplanes.specs.RoundLaws.{five-rounds}
 use borrow.Author.Needs.{needs}
 use Rattle.bitplanes.proofs.turn_group.Statement.{statement}

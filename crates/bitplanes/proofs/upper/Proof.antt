@@ -3,7 +3,7 @@ use mathlib.Core.Path.{sym, ap₂}
 use native.Mathlib.Nat.{mod-eq-of-lt}
 use lib.Bits.{bitXor}
 use borrow.Author.Needs.{needs}
-use Rattle.bitplanes.specs.Rounds.{upperOf}
+use Rattle.bitplanes.specs.RoundSteps.{upperOf}
 use Rattle.bitplanes.proofs.upper.Statement.{statement}
 use Rattle.bitplanes.proofs.upper.Tie as tie
 

@@ -1,4 +1,4 @@
--- The code's way: five rounds of masks and shifts turn a group. In a round of width w each two words that are w apart exchange blocks of w bits.
+-- How the code turns a group: five rounds of masks and shifts. In a round of width w each two words that are w apart exchange blocks of w bits.
 -- RoundLaws shows that the five rounds are the group turned.
 use mathlib.Core.List.{List, [], _∷_}
 use mathlib.Core.Path.{_≡_}
