@@ -2,7 +2,7 @@
 -- Paper 01, "panelrun and its log": "all 4 bytes, lowest byte first"; "left-over bytes give 16".
 -- Main property (WordBytesLaws): the bytes of words are read as these words.
 use mathlib.Core.List.{List, [], _∷_, _++_}
-use Prim.Native.Nat.{ℕ, _/_, _%_}
+use Prim.Native.Nat.{ℕ, _/_, _%_, _<_}
 use lib.ListN.{length}
 use Rattle.events.specs.Words.{wordAt}
 use Rattle.events.specs.Log.{Log, logOf}
@@ -30,3 +30,8 @@ leastFirst w = w % 256 ∷ w / 256 % 256 ∷ w / 65536 % 256 ∷ w / 16777216 �
 unfoldable pub bytesOf : List ℕ → List ℕ
 bytesOf [] = []
 bytesOf (w ∷ ws) = leastFirst w ++ bytesOf ws
+
+-- bytes of 8 bits
+abbrev pub AllBytes : List ℕ → Type 0
+AllBytes [] = Unit
+AllBytes (b ∷ bytes) = (b < 256) × AllBytes bytes

@@ -4,7 +4,7 @@ use mathlib.Core.List.{List, [], _∷_, _++_}
 use Prim.Native.Nat.{ℕ, zero, suc, _+_, _*_, _/_, _%_, _^_, _<_}
 use native.Mathlib.Omega.{arith}
 use lib.ListN.{length}
-use Rattle.events.specs.Bytes.{wordsIn, leastFirst, bytesOf}
+use Rattle.events.specs.Bytes.{wordsIn, leastFirst, bytesOf, AllBytes}
 use Rattle.events.specs.Words.{wordAt}
 use Rattle.events.specs.Written.{AllWords}
 
@@ -29,11 +29,6 @@ bytes-more [] w = refl
 bytes-more (v ∷ ws) w = ap (λ (l : List ℕ). leastFirst v ++ l) (bytes-more ws w)
 
 -- ---- WHOLE WORDS ARE WRITTEN AS THEIR BYTES
--- bytes of 8 bits
-abbrev pub AllBytes : List ℕ → Type 0
-AllBytes [] = Unit
-AllBytes (b ∷ bytes) = (b < 256) × AllBytes bytes
-
 pub words-bytes : (k : ℕ) (bytes : List ℕ) → length bytes ≡ 4 * k → AllBytes bytes → bytesOf (wordsIn bytes) ≡ bytes
 unfolding wordsIn bytesOf
 words-bytes zero [] l h = refl

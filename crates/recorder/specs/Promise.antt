@@ -4,8 +4,7 @@ use mathlib.Core.List.{List}
 use Prim.Native.Nat.{ℕ, _*_, _/_, _≤_}
 use lib.ListN.{length, drop}
 use Rattle.bitplanes.specs.Turned.{turned}
-use Rattle.events.specs.Bytes.{wordsIn}
-use Rattle.events.specs.WordBytesLaws.{AllBytes}
+use Rattle.events.specs.Bytes.{wordsIn, AllBytes}
 use Rattle.recorder.specs.Recorded.{stored, inPieces}
 
 -- as many bytes are stored

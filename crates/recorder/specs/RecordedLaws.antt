@@ -9,8 +9,8 @@ use lib.Seq.{length-take-le, take-at, drop-at}
 use Rattle.bitplanes.specs.Turned.{turnedGroup, inGroups, turned}
 use Rattle.bitplanes.specs.PlaneLaws.{planes-length, group-lt, group-back}
 use Rattle.bitplanes.specs.GroupLaws.{Keeps, groups-length, groups-rest, groups-split}
-use Rattle.events.specs.Bytes.{wordsIn, bytesOf}
-use Rattle.events.specs.WordBytesLaws.{AllBytes, bytes-length, bytes-words, words-bytes, words-append, words-count, words-small}
+use Rattle.events.specs.Bytes.{wordsIn, bytesOf, AllBytes}
+use Rattle.events.specs.WordBytesLaws.{bytes-length, bytes-words, words-bytes, words-append, words-count, words-small}
 use Rattle.events.specs.Written.{AllWords}
 use Rattle.recorder.specs.Recorded.{turnedBytes, stored, inPieces}
 use Rattle.recorder.specs.Promise.{LengthKept, WordsTurned, RestKept, BytesBack, PiecesJoined}
