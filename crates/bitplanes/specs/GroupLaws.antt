@@ -5,7 +5,7 @@ use Prim.Native.Nat.{ℕ, zero, suc, _+_, _-_, _*_, _≤_, _<_}
 use native.Mathlib.Nat.{suc-mul, zero-mul, add-comm, zero-add, suc-add, not-suc-le-zero, le-of-suc-le-suc}
 use native.Mathlib.Omega.{arith}
 use lib.ListN.{length, getD, take, drop, length-append, length-drop, List·getD-append}
-use lib.Seq.{drop-drop, length-take-le, take-at, drop-at, take-append-le, drop-append-le, getD-append-add, getD-take, getD-drop}
+use lib.Seq.{drop-drop, length-take-le, take-at, drop-at, take-append-le, drop-append-le, getD-append-add}
 use Rattle.bitplanes.specs.Turned.{inGroups}
 
 -- f keeps the length of a group of s

@@ -1,8 +1,8 @@
 -- What the loops of `copy` and `exchange` do to their lists, one turn at a time. A round goes through 16 pairs of words that are w apart.
 use mathlib.Core.Path.{_≡_, refl, sym, ap, ap₂, _∙_, subst}
-use mathlib.Core.Logic.{_⊎_, inl, inr, ⊎-elim}
+use mathlib.Core.Logic.{_⊎_, inl, inr}
 use mathlib.Core.List.{List, _++_}
-use Prim.Native.Nat.{ℕ, suc, _+_, _-_, _*_, _/_, _%_, _^_, _≤_, _<_}
+use Prim.Native.Nat.{ℕ, suc, _+_, _-_, _*_, _/_, _%_, _≤_, _<_}
 use native.Mathlib.Nat.{mod-lt, mod-le, add-zero, mul-assoc, mul-comm, div-add-mod', div-lt-iff-lt-mul}
 use native.Mathlib.Numerals.{add-one}
 use native.Mathlib.Omega.{arith}
@@ -11,7 +11,7 @@ use lib.Bits.{bitAnd, and-mask}
 use lib.Dec.{lit<}
 use lib.ListN.{length, getD, take, drop, set}
 use lib.Seq.{set-at, drop-cons, take-suc, append-snoc, length-take-le, getD-set-same, getD-set-other, lt-length-set, ext-getD}
-use Rattle.bitplanes.specs.IndexLaws.{above, at, below, at-lt, joined, parts, joined-above, joined-at, joined-below, joined-lt, joined-one, above-lt}
+use Rattle.bitplanes.specs.IndexLaws.{above, at, below, joined, parts, joined-above, joined-at, joined-below, joined-lt, joined-one, above-lt}
 use Rattle.bitplanes.specs.MaskLaws.{sizes}
 use Rattle.bitplanes.specs.RoundSteps.{Width, First, lowerOf, upperOf, chosen, exchangedWord, exchanged}
 use Rattle.bitplanes.specs.RoundLaws.{even-odd, below-or, exchanged-length, exchanged-at}

@@ -1,6 +1,6 @@
 -- Turning, at every length: what Promise claims. A list and its turned list have each bit at its place in the other, and only one list has them there;
 -- so turning again gives the list back.
-use mathlib.Core.Path.{_≡_, refl, sym, ap, ap₂, _∙_, subst}
+use mathlib.Core.Path.{_≡_, sym, ap, ap₂, _∙_, subst}
 use mathlib.Core.Bool.{Bool, cond}
 use mathlib.Core.Logic.{_⊎_, inl, inr}
 use mathlib.Core.List.{List, _++_, append-nil}
@@ -10,7 +10,7 @@ use borrow.Author.Tests.{le-ltb}
 use lib.Dec.{ltb}
 use lib.ListN.{length, getD, take, drop, length-drop, drop-of-length-le}
 use lib.Seq.{take-all, ext-getD, getD-take, getD-drop, length-take-le}
-use Rattle.bitplanes.specs.Turned.{bitAt, turnedGroup, inGroups, turned, filled, turnedInto}
+use Rattle.bitplanes.specs.Turned.{bitAt, turnedGroup, inGroups, turned, filled}
 use Rattle.bitplanes.specs.Promise.{Words, Placed, EachBitPlaced, OnlyTurned, WordsKept, TurnsBack, ReadBack}
 use Rattle.bitplanes.specs.BitLaws.{bits-same}
 use Rattle.bitplanes.specs.PlaneLaws.{planes-length, group-bit, group-lt}

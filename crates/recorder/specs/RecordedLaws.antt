@@ -6,7 +6,7 @@ use native.Mathlib.Nat.{not-suc-le-zero, le-of-suc-le-suc, suc-mul}
 use native.Mathlib.Omega.{arith}
 use lib.ListN.{length, getD, take, drop, length-append, length-drop, take-append-drop}
 use lib.Seq.{length-take-le, take-at, drop-at}
-use Rattle.bitplanes.specs.Turned.{turnedGroup, inGroups, turned}
+use Rattle.bitplanes.specs.Turned.{turnedGroup, inGroups}
 use Rattle.bitplanes.specs.PlaneLaws.{planes-length, group-lt, group-back}
 use Rattle.bitplanes.specs.GroupLaws.{Keeps, groups-length, groups-rest, groups-split}
 use Rattle.events.specs.Bytes.{wordsIn, bytesOf, AllBytes}

@@ -6,8 +6,8 @@ ghost use lib.ListN.{length};
 ghost use Rattle.events.specs.Bytes.{wordsIn, bytesOf};
 ghost use Rattle.recorder.specs.Recorded.{turnedBytes, storedInto};
 
-// The bytes of a full group. A text in pieces of whole groups is stored piece by piece.
-pub const GROUP: usize = 128;
+// The bytes of a full group.
+const GROUP: usize = 128;
 
 // The words of a full group.
 fn words_of(group: &[u8]) -> [u32; 32]

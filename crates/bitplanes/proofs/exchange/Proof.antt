@@ -4,7 +4,6 @@ use Prim.Native.Nat.{ℕ, _-_, _≤_}
 use native.Mathlib.Omega.{arith}
 use borrow.Author.Needs.{needs}
 use lib.ListN.{length}
-use Rattle.bitplanes.specs.RoundSteps.{exchanged}
 use Rattle.bitplanes.specs.LoopLaws.{Part, part-none, part-more, part-all}
 use Rattle.bitplanes.proofs.exchange.Statement.{statement}
 use Rattle.bitplanes.proofs.exchange.Tie as tie

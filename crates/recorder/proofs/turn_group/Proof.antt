@@ -6,7 +6,7 @@ use native.Mathlib.Omega.{arith}
 use lib.ListN.{length, drop, replicate, drop-of-length-le}
 use Rattle.bitplanes.specs.Turned.{turnedGroup, turned}
 use Rattle.bitplanes.specs.TurnedLaws.{filled-long, turned-one}
-use Rattle.events.specs.Bytes.{wordsIn, bytesOf}
+use Rattle.events.specs.Bytes.{bytesOf}
 use Rattle.recorder.specs.RecordedLaws.{group-words}
 use borrow.Author.Needs.{needs}
 use Rattle.recorder.proofs.turn_group.Statement.{statement}

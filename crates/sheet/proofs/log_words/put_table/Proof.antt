@@ -1,6 +1,6 @@
 -- `sheet::log_words::put_table` meets its contract. The invariant: the bytes of the first k words stand at the start of the buffer. The measure is what is left of them.
 use mathlib.Core.Path.{_≡_, refl, ap, _∙_}
-use Prim.Native.Nat.{_-_, _*_, _≤_, _<_}
+use Prim.Native.Nat.{_-_, _*_, _≤_}
 use native.Mathlib.Omega.{arith}
 use lib.IntN.{pos}
 use lib.ListN.{length, getD, take}
