@@ -3,7 +3,7 @@ use mathlib.Core.Path.{_≡_}
 use mathlib.Core.List.{List, _++_}
 use Prim.Native.Nat.{ℕ, _+_, _*_, _/_, _^_, _≤_, _<_}
 use lib.ListN.{length, getD, drop}
-use Rattle.bitplanes.specs.Turned.{bitAt, turned, turnedInto}
+use Rattle.bitplanes.specs.Turned.{groupSize, bitAt, turned, turnedInto}
 
 -- every word has 32 bits
 abbrev pub Words : List ℕ → Type 0
@@ -12,8 +12,8 @@ Words ts = (i : ℕ) → i < length ts → getD ts i 0 < 2 ^ 32
 -- us is ts with each bit at its place: in every full group g bit j of word i is bit i of word j, and a remainder is as it was
 pub record Placed (ts us : List ℕ) : Type 0 where
   pub long : length us ≡ length ts
-  pub bits : (g i j : ℕ) → g < length ts / 32 → i < 32 → j < 32 → bitAt i (getD us (g * 32 + j) 0) ≡ bitAt j (getD ts (g * 32 + i) 0)
-  pub rest : drop (length ts / 32 * 32) us ≡ drop (length ts / 32 * 32) ts
+  pub bits : (g i j : ℕ) → g < length ts / groupSize → i < groupSize → j < groupSize → bitAt i (getD us (g * groupSize + j) 0) ≡ bitAt j (getD ts (g * groupSize + i) 0)
+  pub rest : drop (length ts / groupSize * groupSize) us ≡ drop (length ts / groupSize * groupSize) ts
 
 -- turning puts each bit at its place
 abbrev pub EachBitPlaced : Type 0

@@ -6,6 +6,10 @@ use Prim.Native.Nat.{ℕ, zero, suc, _+_, _*_, _/_, _%_, _^_}
 use lib.Dec.{ltb}
 use lib.ListN.{length, take, drop}
 
+-- "group of 32": as many words as a word has bits
+abbrev pub groupSize : ℕ
+groupSize = 32
+
 -- bit k of a word
 abbrev pub bitAt : ℕ → ℕ → ℕ
 bitAt k t = t / 2 ^ k % 2
@@ -22,7 +26,7 @@ planes (suc n) j ts = plane j ts ∷ planes n (suc j) ts
 
 -- "bit j of word i becomes bit i of word j, i and j from 0 to 31": a group's planes are its words
 abbrev pub turnedGroup : List ℕ → List ℕ
-turnedGroup ts = planes 32 0 ts
+turnedGroup ts = planes groupSize 0 ts
 
 -- the first n groups of s each made anew by f, the rest as it is
 unfoldable pub inGroups : ℕ → (List ℕ → List ℕ) → ℕ → List ℕ → List ℕ
@@ -31,7 +35,7 @@ inGroups s f (suc n) ts = f (take s ts) ++ inGroups s f n (drop s ts)
 
 -- "turns each full group of 32"; "A remainder of fewer than 32 is stored as it is"
 abbrev pub turned : List ℕ → List ℕ
-turned ts = inGroups 32 turnedGroup (length ts / 32) ts
+turned ts = inGroups groupSize turnedGroup (length ts / groupSize) ts
 
 -- a number, and the output slice after it: "22 output slice shorter than input, nothing written"; else 0, and the slice is "filled exactly and nothing beyond is touched".
 -- `all` is what the whole input is to become, as long as the input

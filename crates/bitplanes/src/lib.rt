@@ -8,6 +8,9 @@ ghost use lib.ListN.{length, drop};
 ghost use Rattle.bitplanes.specs.Turned.{turnedGroup, turnedInto};
 ghost use Rattle.bitplanes.specs.RoundSteps.{Width, First, maskOf, lowerOf, upperOf, crossing, exchanged};
 
+// The words of a group, as many as a word has bits.
+const GROUP: usize = 32;
+
 // s to the front of d.
 fn copy(s: &[u32], d: &mut [u32])
     requires { ⌜ length (now s) ≤ length (now d) ⌝ }
@@ -98,8 +101,8 @@ pub fn turn(input: &[u32], output: &mut [u32]) -> u8
     }
     copy(input, output);
     let mut at = 0;
-    while n - at >= 32 {
-        let end = at + 32;
+    while n - at >= GROUP {
+        let end = at + GROUP;
         turn_group(&mut output[at..end]);
         at = end;
     }

@@ -6,13 +6,17 @@ use lib.ListN.{length, take, drop}
 use Rattle.bitplanes.specs.Turned.{turnedGroup, inGroups, filled}
 use Rattle.events.specs.Bytes.{wordsIn, bytesOf}
 
--- the 128 bytes of a full group
+-- the bytes of a full group: 32 words of 4
+abbrev pub groupBytes : ℕ
+groupBytes = 128
+
+-- a full group
 abbrev pub turnedBytes : List ℕ → List ℕ
 turnedBytes group = bytesOf (turnedGroup (wordsIn group))
 
 -- "turns each full group of 32 telegrams before storage"
 abbrev pub stored : List ℕ → List ℕ
-stored bytes = inGroups 128 turnedBytes (length bytes / 128) bytes
+stored bytes = inGroups groupBytes turnedBytes (length bytes / groupBytes) bytes
 
 -- what `turn` answers and leaves in the output slice
 abbrev pub storedInto : List ℕ → List ℕ → ℕ × List ℕ
