@@ -3,7 +3,6 @@ pub mod Turned
 pub mod Promise
 pub mod Cases
 pub mod RoundSteps
-pub mod BitLaws
 pub mod PlaneLaws
 pub mod GroupLaws
 pub mod IndexLaws

@@ -11,10 +11,11 @@ use lib.Bits.{bitAnd, and-mask}
 use lib.Dec.{lit<}
 use lib.ListN.{length, getD, take, drop, set}
 use lib.Seq.{set-at, drop-cons, take-suc, append-snoc, length-take-le, getD-set-same, getD-set-other, lt-length-set, ext-getD}
+use Rattle.bits.specs.BitLaws.{below-or}
 use Rattle.bitplanes.specs.IndexLaws.{above, at, below, joined, parts, joined-above, joined-at, joined-below, joined-lt, joined-one, above-lt}
 use Rattle.bitplanes.specs.MaskLaws.{sizes}
 use Rattle.bitplanes.specs.RoundSteps.{Width, First, lowerOf, upperOf, chosen, exchangedWord, exchanged}
-use Rattle.bitplanes.specs.RoundLaws.{even-odd, below-or, exchanged-length, exchanged-at}
+use Rattle.bitplanes.specs.RoundLaws.{even-odd, exchanged-length, exchanged-at}
 
 -- ---- a copy: one word more
 pub copy-next : (s d : List ℕ) (i : ℕ) → i < length s → i < length d → set (take i s ++ drop i d) i (getD s i 0) ≡ take (i + 1) s ++ drop (i + 1) d

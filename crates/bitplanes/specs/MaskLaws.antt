@@ -7,7 +7,7 @@ use native.Mathlib.Nat.{not-suc-le-zero}
 use native.Mathlib.Omega.{arith}
 use borrow.Author.Tests.{eqb-true, eqb-false}
 use lib.Dec.{lit<, lit≤, eqb}
-use Rattle.bitplanes.specs.Turned.{bitAt}
+use Rattle.bits.specs.Bits.{bitAt}
 use Rattle.bitplanes.specs.IndexLaws.{at}
 use Rattle.bitplanes.specs.RoundSteps.{Width, by1, by2, by4, by8, by16, maskOf}
 

@@ -8,8 +8,9 @@ use lib.Arith.{digits-lt, digits-div, digits-mod}
 use lib.Dec.{lit<}
 use lib.ListN.{length, getD}
 use lib.Seq.{ext-getD}
-use Rattle.bitplanes.specs.Turned.{bitAt, plane, planes}
-use Rattle.bitplanes.specs.BitLaws.{bit-lt, bit-first, bit-next, bit-none, bits-same}
+use Rattle.bits.specs.Bits.{bitAt}
+use Rattle.bitplanes.specs.Turned.{plane, planes}
+use Rattle.bits.specs.BitLaws.{bit-lt, bit-first, bit-next, bit-none, bits-same}
 
 -- past the end of the list both are 0
 pub bit-plane : (ts : List ℕ) (i j : ℕ) → bitAt i (plane j ts) ≡ bitAt j (getD ts i 0)

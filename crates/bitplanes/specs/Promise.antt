@@ -3,7 +3,8 @@ use mathlib.Core.Path.{_≡_}
 use mathlib.Core.List.{List, _++_}
 use Prim.Native.Nat.{ℕ, _+_, _*_, _/_, _^_, _≤_, _<_}
 use lib.ListN.{length, getD, drop}
-use Rattle.bitplanes.specs.Turned.{groupSize, bitAt, turned, turnedInto}
+use Rattle.bits.specs.Bits.{bitAt}
+use Rattle.bitplanes.specs.Turned.{groupSize, turned, turnedInto}
 
 -- every word has 32 bits
 abbrev pub Words : List ℕ → Type 0

@@ -1,30 +1,21 @@
 -- The five rounds turn a group. After the rounds of width 16 down to w, bit j of word i is the bit of the first group at the place where
 -- row and column have exchanged their index bits at w and above (`Held w`). One law takes `Held (2 * w)` to `Held w` (`round`); it is used five times.
 use mathlib.Core.Path.{_≡_, refl, sym, ap, ap₂, _∙_, subst}
-use mathlib.Core.Bool.{Bool, true, false}
 use mathlib.Core.Logic.{_⊎_, inl, inr}
 use mathlib.Core.List.{List}
 use Prim.Native.Nat.{ℕ, zero, suc, _+_, _-_, _*_, _/_, _%_, _^_, _≤_, _<_}
 use native.Mathlib.Nat.{add-div-right, div-eq-of-lt, zero-add, add-comm, mod-lt, not-suc-le-zero, le-of-suc-le-suc, lt-of-le-of-lt}
 use native.Mathlib.Omega.{arith}
-use borrow.Author.Tests.{ltb-true, ltb-false}
 use lib.Bits.{bitXor, differ, and-le-r, xor-lt}
-use lib.Dec.{ltb}
 use lib.ListN.{length, getD}
 use lib.Pow.{pow-pos, shl-exact}
-use Rattle.bitplanes.specs.Turned.{bitAt, turnedGroup}
-use Rattle.bitplanes.specs.BitLaws.{two, bit-lt, bit-xor, bit-shr, bit-shl, bit-shl-low, bit-mod, digits-differ, differ-none, kept, cut}
+use Rattle.bits.specs.Bits.{bitAt}
+use Rattle.bitplanes.specs.Turned.{turnedGroup}
+use Rattle.bits.specs.BitLaws.{below-or, two, bit-lt, bit-xor, bit-shr, bit-shl, bit-shl-low, bit-mod, digits-differ, differ-none, kept, cut}
 use Rattle.bitplanes.specs.IndexLaws.{at, at-lt, taking, taking-same, taking-up, taking-down, taking-lt, mixed, mixed-taking}
 use Rattle.bitplanes.specs.MaskLaws.{sizes, mask-bit}
 use Rattle.bitplanes.specs.PlaneLaws.{group-is}
 use Rattle.bitplanes.specs.RoundSteps.{Width, by1, by2, by4, by8, by16, maskOf, crossing, lowerOf, upperOf, chosen, exchangedWord, exchangedFrom, exchanged, fiveRounds}
-
-pub below-or : (k w : ℕ) → (k < w) ⊎ (w ≤ k)
-below-or k w = by-test (ltb k w) refl
-  where
-    by-test : (b : Bool) → ltb k w ≡ b → (k < w) ⊎ (w ≤ k)
-    by-test true e = inl (ltb-true k w e)
-    by-test false e = inr (ltb-false k w e)
 
 -- ---- a block up or down changes the bit at w
 block-less : (w k : ℕ) → 0 < w → w ≤ k → k / w ≡ (k - w) / w + 1

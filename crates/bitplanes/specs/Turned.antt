@@ -2,17 +2,14 @@
 -- What this comes to, bit by bit, and that turning again brings the list back, stands in Promise.
 use mathlib.Core.Bool.{cond}
 use mathlib.Core.List.{List, [], _∷_, _++_}
-use Prim.Native.Nat.{ℕ, zero, suc, _+_, _*_, _/_, _%_, _^_}
+use Prim.Native.Nat.{ℕ, zero, suc, _+_, _*_, _/_}
 use lib.Dec.{ltb}
 use lib.ListN.{length, take, drop}
+use Rattle.bits.specs.Bits.{bitAt}
 
 -- "group of 32": as many words as a word has bits
 abbrev pub groupSize : ℕ
 groupSize = 32
-
--- bit k of a word
-abbrev pub bitAt : ℕ → ℕ → ℕ
-bitAt k t = t / 2 ^ k % 2
 
 -- plane j of a list of words: its bit i is bit j of word i
 unfoldable pub plane : ℕ → List ℕ → ℕ

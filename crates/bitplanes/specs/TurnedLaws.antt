@@ -10,12 +10,12 @@ use borrow.Author.Tests.{le-ltb}
 use lib.Dec.{ltb}
 use lib.ListN.{length, getD, take, drop, length-drop, drop-of-length-le}
 use lib.Seq.{take-all, ext-getD, getD-take, getD-drop, length-take-le}
-use Rattle.bitplanes.specs.Turned.{bitAt, turnedGroup, inGroups, turned, filled}
+use Rattle.bits.specs.Bits.{bitAt}
+use Rattle.bitplanes.specs.Turned.{turnedGroup, inGroups, turned, filled}
 use Rattle.bitplanes.specs.Promise.{Words, Placed, EachBitPlaced, OnlyTurned, WordsKept, TurnsBack, ReadBack}
-use Rattle.bitplanes.specs.BitLaws.{bits-same}
+use Rattle.bits.specs.BitLaws.{below-or, bits-same}
 use Rattle.bitplanes.specs.PlaneLaws.{planes-length, group-bit, group-lt}
 use Rattle.bitplanes.specs.GroupLaws.{Keeps, groups-length, groups-at, groups-rest}
-use Rattle.bitplanes.specs.RoundLaws.{below-or}
 
 pub group-keeps : Keeps 32 turnedGroup
 group-keeps g l = planes-length 32 0 g

@@ -1,6 +1,6 @@
 // Bit planes for the recorder: each full group of 32 words is turned, so that bit j of word i becomes bit i of word j.
 // A group is turned by five rounds of masks and shifts; a remainder of fewer than 32 words is stored as it is.
-// It uses no other crate.
+// Uses the laws of `bits`.
 ghost use mathlib.Core.Path.{_≡_};
 ghost use mathlib.Core.List.{_++_};
 ghost use Prim.Native.Nat.{_≤_, _<_};

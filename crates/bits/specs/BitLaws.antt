@@ -1,14 +1,25 @@
--- The bits of a number, and what shifts and masks do to each of them.
+-- The bits of a number: what shifts and masks do to each of them, and where the lowest stands that is set.
 use mathlib.Core.Path.{_≡_, refl, sym, ap, ap₂, _∙_, subst}
+use mathlib.Core.Bool.{Bool, true, false}
 use mathlib.Core.Logic.{_⊎_, inl, inr}
-use Prim.Native.Nat.{ℕ, zero, suc, _+_, _-_, _*_, _/_, _%_, _^_, _<_, min}
-use native.Mathlib.Nat.{mod-lt, div-one, zero-div, zero-mod, mul-assoc, div-add-mod', min-zero, min-eq-left, min-le-left, lt-of-le-of-lt, le-of-suc-le-suc}
+use Prim.Native.Nat.{ℕ, zero, suc, _+_, _-_, _*_, _/_, _%_, _^_, _≤_, _<_, min, max, suc-le-suc}
+use native.Mathlib.Nat.{mod-lt, div-one, div-self, div-eq-of-lt, zero-div, zero-mod, one-mul, mul-assoc, div-add-mod', min-zero, min-eq-left, min-le-left, max-le, lt-of-le-of-lt, le-of-suc-le-suc}
 use native.Mathlib.Omega.{arith}
 use lib.Arith.{lt-one, digits-mod}
-use lib.Bits.{bitAnd, bitXor, differ, and-step, xor-step, and-shr, xor-shr, shifted-even}
-use lib.Dec.{lit<}
-use lib.Pow.{pow-add, shl-shr, shr-shr, shr-lt, field, mod-mod-pow}
-use Rattle.bitplanes.specs.Turned.{bitAt}
+use lib.Bits.{bitAnd, bitOr, bitXor, differ, and-step, or-step, xor-step, and-shr, or-shr, xor-shr, shifted-even}
+use lib.Count.{trailingZeros, under}
+use borrow.Author.Tests.{ltb-true, ltb-false}
+use lib.Dec.{lit<, ltb}
+use lib.Pow.{pow-pos, pow-lt, pow-add, shl-shr, shr-shr, shr-lt, field, mod-mod-pow}
+use Rattle.bits.specs.Bits.{bitAt}
+
+-- one of two numbers is below the other, or not
+pub below-or : (k w : ℕ) → (k < w) ⊎ (w ≤ k)
+below-or k w = by-test (ltb k w) refl
+  where
+    by-test : (b : Bool) → ltb k w ≡ b → (k < w) ⊎ (w ≤ k)
+    by-test true e = inl (ltb-true k w e)
+    by-test false e = inr (ltb-false k w e)
 
 pub bit-lt : (k t : ℕ) → bitAt k t < 2
 bit-lt k t = mod-lt (t / 2 ^ k) (lit< tt)
@@ -107,3 +118,57 @@ bit-mod k n a h =
   where
     whole : (k n : ℕ) → k < n → n ≡ n - suc k + 1 + k
     whole k n h = omega arith
+
+-- ---- or
+or-last : (a b : ℕ) → bitOr a b % 2 ≡ max (a % 2) (b % 2)
+or-last a b =
+    ap (λ (x : ℕ). x % 2) (or-step a b)
+    ∙ digits-mod (bitOr (a / 2) (b / 2)) (suc-le-suc (max-le (le-of-suc-le-suc (mod-lt a (lit< tt))) (le-of-suc-le-suc (mod-lt b (lit< tt)))))
+
+pub bit-or : (k a b : ℕ) → bitAt k (bitOr a b) ≡ max (bitAt k a) (bitAt k b)
+bit-or k a b = ap (λ (x : ℕ). x % 2) (or-shr a b k) ∙ or-last (a / 2 ^ k) (b / 2 ^ k)
+
+-- ---- a number with one bit set
+pub bit-power : (j : ℕ) → bitAt j (2 ^ j) ≡ 1
+bit-power j = ap (λ (x : ℕ). x % 2) (div-self (pow-pos j))
+
+pub bit-power-other : (k j : ℕ) → (k ≡ j → ⊥) → bitAt k (2 ^ j) ≡ 0
+bit-power-other k j n = by-order (below-or k j)
+  where
+    by-order : (k < j) ⊎ (j ≤ k) → bitAt k (2 ^ j) ≡ 0
+    by-order (inl h) = ap (bitAt k) (sym (one-mul (2 ^ j))) ∙ bit-shl-low k j 1 h
+    by-order (inr h) = ap (λ (x : ℕ). x % 2) (div-eq-of-lt (pow-lt (above k j n h))) ∙ zero-mod 2
+      where
+        above : (k j : ℕ) → (k ≡ j → ⊥) → j ≤ k → j < k
+        above k j n h = omega arith
+
+-- ---- the zeros below the lowest bit that is set
+-- t is its number, of a number of m bits
+pub record LowestBit (m n t : ℕ) : Type 0 where
+  pub within : t < m
+  pub is-set : bitAt t n ≡ 1
+  pub below : (i : ℕ) → i < t → bitAt i n ≡ 0
+
+pub lowest-bit : (m k n : ℕ) → 0 < n → n < 2 ^ m → m ≤ k → LowestBit m n (trailingZeros k n)
+unfolding trailingZeros
+lowest-bit zero k n p h l = absurd (none (lt-one h) p)
+  where
+    none : {x : ℕ} → x ≡ 0 → 0 < x → ⊥
+    none e q = omega arith
+lowest-bit (suc m) zero n p h l = absurd (omega arith)
+lowest-bit (suc m) (suc k) n p h l =
+    by-last (two (n % 2) (mod-lt n (lit< tt)))
+    (λ e. lowest-bit m k (n / 2) (omega arith) (shr-lt m 1 (subst (λ (y : ℕ). n < 2 ^ y) (omega arith) h)) (omega arith))
+  where
+    t : ℕ
+    t = trailingZeros k (n / 2)
+
+    zeros : n % 2 ≡ 0 → LowestBit m (n / 2) t → (i : ℕ) → i < suc t → bitAt i n ≡ 0
+    zeros e b zero g = bit-first n ∙ e
+    zeros e b (suc i) g = bit-next i n ∙ b .below i (omega arith)
+
+    by-last : (n % 2 ≡ 0) ⊎ (n % 2 ≡ 1) → (n % 2 ≡ 0 → LowestBit m (n / 2) t) → LowestBit (suc m) n (under (n % 2) t)
+    by-last (inl e) half =
+        let b = half e in
+        rw e (record { within = omega arith; is-set = bit-next t n ∙ b .is-set; below = zeros e b })
+    by-last (inr e) half = rw e (record { within = omega arith; is-set = bit-first n ∙ e; below = λ i g. absurd (omega arith) })
