@@ -368,7 +368,7 @@ impl fmt::Display for Polling {
             writeln!(f, "{name}: {}", self.of(&name))?;
         }
         for (panels, wait) in &self.longest {
-            writeln!(f, "longest wait with n = {panels}: {wait} picks, 2n = {}", 2 * panels)?;
+            writeln!(f, "longest wait, n = {panels}: {wait} of {} picks", 2 * panels)?;
         }
         Ok(())
     }
