@@ -12,12 +12,12 @@ lowest-above-requires-2 : tie.Need-lowest-above-requires-2
 lowest-above-requires-2 c κs = search needs
 
 returns : tie.Need-returns
-returns c = 
+returns c =
     let a = c .before .before .before .before .args in
     c .lowest-above2 .ensures ∙ sym (next-lowest (a .g) (sym (c .before .before .lowest-above .ensures) ∙ c .before .if1 .taken))
 
 returns-2 : tie.Need-returns-2
-returns-2 c = 
+returns-2 c =
     let l = c .before .lowest-above in
     let a = c .before .before .before .args in
     l .ensures ∙ sym (next-higher (a .g) (λ e. c .if1 .left (l .ensures ∙ e)))
