@@ -68,9 +68,20 @@ lowest-past p a (suc m) n none =
 
 -- ---- the count in a loop that goes up from a
 
-pub count-step : (p : ℕ → Bool) (a n : ℕ) → countFrom p a (n + 1) ≡ cond (p a) 1 0 + countFrom p (a + 1) n
+module _ (p : ℕ → Bool) (a : ℕ) where
+  -- of the addresses above a
+  abbrev pub countAbove : ℕ
+  countAbove = countFrom p (suc a) (255 - a)
+
+pub count-step : (p : ℕ → Bool) (a : ℕ) → a < 255 → (b : Bool) → p (a + 1) ≡ b → countAbove p a ≡ cond b 1 0 + countAbove p (a + 1)
 unfolding countFrom
-count-step p a n = rw (add-one n, add-one a)
+count-step p a h b e =
+    let n : 255 - a ≡ suc (255 - (a + 1)) = omega arith in
+    rw (n, ← add-one a, e)
+
+pub count-end : (p : ℕ → Bool) (a : ℕ) → 255 ≤ a → countAbove p a ≡ 0
+unfolding countFrom
+count-end p a h = let n : 255 - a ≡ 0 = omega arith in rw n
 
 -- ---- fewer pass a narrower test
 

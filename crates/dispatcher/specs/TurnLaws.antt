@@ -11,7 +11,7 @@ use Rattle.addresses.specs.SearchLaws.{lowest-none, lowest-is}
 use Rattle.dispatcher.specs.declared.Group.{Group}
 use Rattle.dispatcher.specs.declared.Dispatcher.{Dispatcher}
 use Rattle.dispatcher.specs.declared.Choice.the-variants.{Nobody}
-use Rattle.dispatcher.specs.Dispatch.{member, some, nextOf, errorTurn, polls, pickOf}
+use Rattle.dispatcher.specs.Dispatch.{groupOf, member, some, nextOf, errorTurn, polls, pickOf}
 
 -- ---- a group with a member, and one with none
 
@@ -83,3 +83,16 @@ module _ (d : Dispatcher) where
   pub pick-ordinary-between : some (d .ordinary) ≡ true → d .faulty ≡ true → pickOf d ≡ polls d false
   unfolding pickOf errorTurn
   pick-ordinary-between o f = rw (o, f, and-false (some (d .error)))
+
+  -- the group that comes first is the other one than that of the last poll, if it has a panel
+  pub pick-first : (f : Bool) → d .faulty ≡ f → some (groupOf d (not f)) ≡ true → pickOf d ≡ polls d (not f)
+  pick-first true e s = pick-ordinary-between s e
+  pick-first false e s = pick-error-first s e
+
+  pub pick-second : (f : Bool) → d .faulty ≡ f → some (groupOf d (not f)) ≡ false → some (groupOf d f) ≡ true → pickOf d ≡ polls d f
+  pick-second true e n s = pick-error-alone s n
+  pick-second false e n s = pick-ordinary-alone n s
+
+  pub pick-none : (f : Bool) → some (groupOf d (not f)) ≡ false → some (groupOf d f) ≡ false → pickOf d ≡ record { dispatcher = d; choice = Nobody }
+  pick-none true o e = pick-nobody e o
+  pick-none false e o = pick-nobody e o

@@ -1,4 +1,5 @@
-//! Runs another panelrun, console or planes on random cases and holds its output against the model's.
+//! Runs another panelrun, console, planes or poller on random cases and holds its output against the
+//! model's.
 
 use std::fs;
 use std::io::{self, ErrorKind, Write};
@@ -11,6 +12,7 @@ use crate::coverage::{self, Coverage};
 use crate::generate::planes::Met;
 use crate::generate::{self, borders, sessions};
 use crate::planes;
+use crate::polling::{self, Polling};
 use crate::tally::{self, Tally};
 
 /// Processes at a time.
@@ -83,6 +85,14 @@ pub fn planes_case(seed: u64, index: u64) -> Case<Met> {
     let met = Met::of(content, &input, &expected);
     let purpose = format!("{}, {} bytes", content.name(), input.len());
     Case { purpose, input, expected, turns_back: true, met }
+}
+
+/// K12: a text of poller from a seed.
+pub fn poller_case(seed: u64, index: u64) -> Case<Polling> {
+    let (theme, input) = generate::polls::text(seed, index);
+    let (expected, met) = polling::observe(&input);
+    let purpose = theme.name().into();
+    Case { purpose, input, expected: expected.into_bytes(), turns_back: false, met }
 }
 
 /// Compares `count` cases; the first difference ends the comparison.

@@ -7,8 +7,8 @@ use std::process::ExitCode;
 
 use model::record::{self, Recording};
 use model::{
-    bench, carriage, console, differ, generate, panelrun, planes, print, serve, sessions, slave,
-    turn,
+    bench, carriage, console, differ, generate, panelrun, planes, poller, polling, polls, print,
+    recorded_polls, serve, sessions, slave, turn,
 };
 
 const USAGE: &str = "usage:
@@ -16,14 +16,17 @@ const USAGE: &str = "usage:
   model print < input > output
   model console < text > text
   model planes < bytes > bytes
+  model poller < text > text
   model slave NODE TABLE [EVENTS]  (a serial line on standard input and output)
   model generate SEED CASE > input
   model differ PANELRUN_PATH SEED COUNT
   model differ-console CONSOLE_PATH SEED COUNT
   model differ-planes PLANES_PATH SEED COUNT
+  model differ-poller POLLER_PATH SEED COUNT
   model record runs SEED RUNS TABLES DIR
   model record sessions SEED COUNT DIR
   model record planes DIR
+  model record polls SEED COUNT DIR
   model check ..                   (as record: whether the files are those of the seed)
   model step ROUNDS < input        (a sum over all answers)
   model bursts ROUNDS < input      (a sum over all bursts of telegrams)
@@ -34,7 +37,9 @@ const USAGE: &str = "usage:
   model frames KIND N > input      (read, write or mixed)
   model carriage KIND N > words    (gray or binary)
   model turn ROUNDS < words        (a sum over the turned words)
-  model copy ROUNDS < words        (the same by copying)";
+  model copy ROUNDS < words        (the same by copying)
+  model picks ROUNDS < steps       (a sum over the answers of a dispatcher)
+  model polls KIND N > steps       (ordinary, errors, reports, spread or mixed)";
 
 fn main() -> ExitCode {
     let words: Vec<String> = env::args().skip(1).collect();
@@ -56,6 +61,7 @@ fn command(words: &[&str]) -> io::Result<bool> {
         ["print"] => print::print(io::stdin().lock(), io::stdout().lock()).map(|()| true),
         ["console"] => console::serve(io::stdin().lock(), io::stdout().lock()).map(|()| true),
         ["planes"] => turn_planes(),
+        ["poller"] => poller::serve(io::stdin().lock(), io::stdout().lock()).map(|()| true),
         ["slave", node, table] => slave::run(node, table, None),
         ["slave", node, table, events] => slave::run(node, table, Some(events)),
         ["generate", seed, case] => generate_case(number(seed)?, number(case)?),
@@ -65,6 +71,9 @@ fn command(words: &[&str]) -> io::Result<bool> {
         }
         ["differ-planes", program, seed, count] => {
             compare_planes(program, number(seed)?, number(count)?)
+        }
+        ["differ-poller", program, seed, count] => {
+            compare_poller(program, number(seed)?, number(count)?)
         }
         ["record", words @ .., folder] => write_record(&recording(words)?, folder),
         ["check", words @ .., folder] => check_record(&recording(words)?, folder),
@@ -86,6 +95,11 @@ fn command(words: &[&str]) -> io::Result<bool> {
         }
         ["turn", rounds] => sum(turn::sum, rounds),
         ["copy", rounds] => sum(turn::sum_of_copies, rounds),
+        ["picks", rounds] => sum(polls::sum, rounds),
+        ["polls", kind, count] if polls::KINDS.contains(kind) => {
+            io::stdout().lock().write_all(&polls::input(kind, number(count)? as usize))?;
+            Ok(true)
+        }
         _ => Err(io::Error::other(USAGE)),
     }
 }
@@ -162,6 +176,19 @@ fn compare_planes(program: &str, seed: u64, count: u64) -> io::Result<bool> {
     Ok(true)
 }
 
+/// K12: false as well where a panel that stayed in its group waited for more than 2n picks.
+fn compare_poller(program: &str, seed: u64, count: u64) -> io::Result<bool> {
+    let make = |index| differ::poller_case(seed, index);
+    let (seen, difference) = differ::differ(program, count, make)?;
+    if let Some(difference) = difference {
+        differ::report(&difference, "poller", differ::by_line)?;
+        return Ok(false);
+    }
+    println!("{count} texts with {} lines compared, no difference", seen.of("lines"));
+    print!("{seen}");
+    Ok(seen.of(polling::OVER) == 0)
+}
+
 fn recording(words: &[&str]) -> io::Result<Recording> {
     match words {
         ["runs", seed, runs, tables] => {
@@ -169,6 +196,7 @@ fn recording(words: &[&str]) -> io::Result<Recording> {
         }
         ["sessions", seed, count] => Ok(sessions::recording(number(seed)?, number(count)?)),
         ["planes"] => Ok(planes::recording()),
+        ["polls", seed, count] => Ok(recorded_polls::recording(number(seed)?, number(count)?)),
         _ => Err(io::Error::other(USAGE)),
     }
 }

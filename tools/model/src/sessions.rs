@@ -121,6 +121,6 @@ fn longest(purpose: &str) -> usize {
 }
 
 /// Only bytes that a diff shows; a carriage return is one of them.
-fn shows(text: &[u8]) -> bool {
+pub fn shows(text: &[u8]) -> bool {
     text.iter().all(|&byte| matches!(byte, b'\t' | b'\n' | b'\r' | b' '..=b'~'))
 }

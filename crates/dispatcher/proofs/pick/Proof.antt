@@ -1,47 +1,66 @@
+-- `dispatcher::pick` meets its contract. A next of 0 says that its group has no member; the group of the last poll comes second.
+use mathlib.Core.Path.{_≡_, refl, sym, _∙_, ap}
+use mathlib.Core.Bool.{false, not}
 use borrow.Author.Needs.{needs}
+use Rattle.dispatcher.specs.Dispatch.{groupOf, some, nextOf, polledOf}
+use Rattle.dispatcher.specs.TurnLaws.{next-none, next-some, pick-first, pick-second, pick-none}
 use Rattle.dispatcher.proofs.pick.Statement.{statement}
 use Rattle.dispatcher.proofs.pick.Tie as tie
-use Rattle.dispatcher.proofs.pick.Reads as reads
-use Rattle.dispatcher.proofs.pick.Lts as lts
-use Rattle.dispatcher.proofs.group_of.Reads as group-of-reads
-use Rattle.dispatcher.proofs.next.Reads as next-reads
-use Rattle.dispatcher.proofs.polled.Reads as polled-reads
 
--- src/lib.rt:256:18
 group-of-requires : tie.Need-group-of-requires
 group-of-requires c κs = search needs
 
--- src/lib.rt:256:9
 next-requires : tie.Need-next-requires
 next-requires c κs = search needs
 
--- src/lib.rt:258:9
 polled-requires : tie.Need-polled-requires
 polled-requires c κs = search needs
 
--- src/lib.rt:258:9
-returns : tie.Need-returns
-returns c = ?
+-- the next of the group that comes first, and of the second
+first : (c : tie.After-next) → let d = c .before .before .before .args .d in c .next .result ≡ nextOf (groupOf d (not (d .faulty)))
+first c = c .next .ensures ∙ ap nextOf (c .before .group-of .ensures)
 
--- src/lib.rt:261:18
+second : (c : tie.After-next2) → let d = c .before .before .before .before .before .before .args .d in c .next2 .result ≡ nextOf (groupOf d (d .faulty))
+second c = c .next2 .ensures ∙ ap nextOf (c .before .group-of2 .ensures)
+
+-- the first has no member
+none-first : (c : tie.Else1) → let d = c .before .before .before .before .args .d in some (groupOf d (not (d .faulty))) ≡ false
+none-first c =
+    let d = c .before .before .before .before .args .d in
+    next-none (groupOf d (not (d .faulty))) (sym (first (c .before)) ∙ c .if1 .left)
+
+returns : tie.Need-returns
+returns c =
+    let w = c .before .before in
+    let d = w .before .before .before .args .d in
+    c .polled .ensures
+    ∙ ap (polledOf d (not (d .faulty))) (first w)
+    ∙ sym (pick-first d (d .faulty) refl (next-some (groupOf d (not (d .faulty))) (λ e. c .before .if1 .taken (first w ∙ e))))
+
 group-of-requires-2 : tie.Need-group-of-requires-2
 group-of-requires-2 c κs = search needs
 
--- src/lib.rt:261:9
 next-requires-2 : tie.Need-next-requires-2
 next-requires-2 c κs = search needs
 
--- src/lib.rt:263:9
 polled-requires-2 : tie.Need-polled-requires-2
 polled-requires-2 c κs = search needs
 
--- src/lib.rt:263:9
 returns-2 : tie.Need-returns-2
-returns-2 c = ?
+returns-2 c =
+    let w = c .before .before in
+    let e = w .before .before in
+    let d = e .before .before .before .before .args .d in
+    c .polled2 .ensures
+    ∙ ap (polledOf d (d .faulty)) (second w)
+    ∙ sym (pick-second d (d .faulty) refl (none-first e) (next-some (groupOf d (d .faulty)) (λ z. c .before .if2 .taken (second w ∙ z))))
 
--- src/lib.rt:252:1
 returns-3 : tie.Need-returns-3
-returns-3 c = ?
+returns-3 c =
+    let w = c .before in
+    let e = w .before .before in
+    let d = e .before .before .before .before .args .d in
+    sym (pick-none d (d .faulty) (none-first e) (next-none (groupOf d (d .faulty)) (sym (second w) ∙ c .if2 .left)))
 
 pub pick-spec : {M : Type 1} → statement M
 pick-spec =

@@ -225,7 +225,7 @@ fn frame_around_the_longest(rng: &mut Rng) -> Vec<u8> {
 }
 
 /// Any bytes but a newline.
-fn bytes(rng: &mut Rng) -> Vec<u8> {
+pub fn bytes(rng: &mut Rng) -> Vec<u8> {
     let byte = |rng: &mut Rng| match rng.draw() as u8 {
         b'\n' => 0,
         byte => byte,

@@ -1,4 +1,4 @@
-//! Random inputs of panelrun and planes, and texts of console, from a seed.
+//! Random inputs of panelrun and planes, and texts of console and poller, from a seed.
 
 pub mod borders;
 pub mod bursts;
@@ -8,6 +8,7 @@ pub mod lines;
 pub mod logs;
 pub mod moment;
 pub mod planes;
+pub mod polls;
 pub mod sessions;
 pub mod tables;
 pub mod theme;

@@ -1,0 +1,54 @@
+-- The ways through a registration and a report, each by what its tests say.
+use mathlib.Core.Path.{_≡_}
+use mathlib.Core.Bool.{Bool, true, false}
+use Prim.Native.Nat.{ℕ, _≤_, _<_}
+use lib.Dec.{leb}
+use borrow.Author.Tests.{lt-ltb, le-ltb, le-leb, lt-leb}
+use Rattle.dispatcher.specs.declared.Dispatcher.{Dispatcher}
+use Rattle.dispatcher.specs.Dispatch.{outside, present, panels, withPanel, withReport, answer, registerOf, reportOf}
+
+-- ---- 1 to 247
+
+module _ (a : ℕ) where
+  pub below-one : a < 1 → outside a ≡ true
+  below-one h = rw (lt-ltb a 1 h)
+
+  pub above-247 : 1 ≤ a → 247 < a → outside a ≡ true
+  above-247 h k = rw (le-ltb a 1 h, lt-ltb 247 a k)
+
+  pub inside : 1 ≤ a → a ≤ 247 → outside a ≡ false
+  inside h k = rw (le-ltb a 1 h, le-ltb 247 a k)
+
+module _ (d : Dispatcher) (a : ℕ) where
+  -- ---- a registration
+
+  pub register-outside : outside a ≡ true → registerOf d a ≡ answer d 32
+  unfolding registerOf
+  register-outside o = rw o
+
+  pub register-present : outside a ≡ false → present d a ≡ true → registerOf d a ≡ answer d 29
+  unfolding registerOf
+  register-present o p = rw (o, p)
+
+  pub register-full : outside a ≡ false → present d a ≡ false → 32 ≤ panels d → registerOf d a ≡ answer d 28
+  unfolding registerOf
+  register-full o p m = rw (o, p, le-leb 32 (panels d) m)
+
+  pub register-joined : outside a ≡ false → present d a ≡ false → panels d < 32 → registerOf d a ≡ answer (withPanel d a) 0
+  unfolding registerOf
+  register-joined o p m = rw (o, p, lt-leb 32 (panels d) m)
+
+  -- ---- a report
+
+  module _ (e : Bool) where
+    pub report-outside : outside a ≡ true → reportOf d a e ≡ answer d 32
+    unfolding reportOf
+    report-outside o = rw o
+
+    pub report-unknown : outside a ≡ false → present d a ≡ false → reportOf d a e ≡ answer d 32
+    unfolding reportOf
+    report-unknown o p = rw (o, p)
+
+    pub report-taken : outside a ≡ false → present d a ≡ true → reportOf d a e ≡ answer (withReport d a e) 0
+    unfolding reportOf
+    report-taken o p = rw (o, p)
