@@ -12,9 +12,17 @@ pub(crate) fn put_message(out: &mut [u8], reason: u8) -> usize
 {
     match reason {
         0 => text::put_bytes(out, 0, b"? line has more than 1024 bytes\n"),
-        1 => text::put_bytes(out, 0, b"? no such word; the words are join, report and pick\n"),
+        1 => text::put_bytes(
+            out,
+            0,
+            b"? no such word; the words are join, report and pick\n",
+        ),
         2 => text::put_bytes(out, 0, b"? join takes a number from 0 to 65535\n"),
-        3 => text::put_bytes(out, 0, b"? report takes a number from 0 to 65535 and 0 or 1\n"),
+        3 => text::put_bytes(
+            out,
+            0,
+            b"? report takes a number from 0 to 65535 and 0 or 1\n",
+        ),
         _ => text::put_bytes(out, 0, b"? pick takes nothing\n"),
     }
 }
