@@ -4,7 +4,7 @@ use script::Numeral;
 use text::words;
 ghost use mathlib.Core.Path.{_≡_};
 ghost use Rattle.text.specs.Words.{wordsOf};
-ghost use Rattle.poll_dialog.specs.Asked.{joinIn, reportIn, pickIn, namedOf, meaningOf, askedOf};
+ghost use Rattle.poll_dialog.specs.Asked.{joinIn, reportIn, pickIn, namedOf, askedOf};
 
 // The most bytes that a line has, its carriage return not counted.
 const LONGEST: usize = 1024;
@@ -90,17 +90,6 @@ fn named(w: &[u8], s: &[u8]) -> Asked
     Asked::Wrong(NO_SUCH_WORD)
 }
 
-// What the words of a text ask for.
-fn meaning(s: &[u8]) -> Asked
-    ensures { λ r. ⌜ r ≡ meaningOf (wordsOf (now (s .entry))) ⌝ }
-{
-    let w = words::word(s);
-    if w.len() == 0 {
-        return Asked::Blank;
-    }
-    named(w, words::rest(s))
-}
-
 // What a line asks for. The line comes without its newline; a carriage return at its end is taken off.
 pub(crate) fn read(line: &[u8]) -> Asked
     ensures { λ r. ⌜ r ≡ askedOf (now (line .entry)) ⌝ }
@@ -115,5 +104,9 @@ pub(crate) fn read(line: &[u8]) -> Asked
     if t[0] == b'#' {
         return Asked::Blank;
     }
-    meaning(t)
+    let w = words::word(t);
+    if w.len() == 0 {
+        return Asked::Blank;
+    }
+    named(w, words::rest(t))
 }
