@@ -25,6 +25,9 @@ pub record NoneExactly (d : Dispatcher) : Type 0 where
   pub nobody : panels d ≡ 0 → pickOf d .choice ≡ Nobody
   pub only : pickOf d .choice ≡ Nobody → panels d ≡ 0
 
+abbrev pub NoneOnlySo : Type 0
+NoneOnlySo = (d : Dispatcher) → NoneExactly d
+
 -- what a pick chooses is registered
 abbrev pub ChosenRegistered : Type 0
 ChosenRegistered = (before : List Step) (a : ℕ) → pickOf (ran freshOf before) .choice ≡ Panel a → T (registered (ran freshOf before) a)
@@ -57,6 +60,9 @@ pub record InErrorUntil (d : Dispatcher) : Type 0 where
   pub picked : (x : ℕ) → inError (after d picks) x ≡ inError d x
   pub joining : (a x : ℕ) → inError (after d (registers a)) x ≡ inError d x
   pub new : (a : ℕ) → registerOf d a .refusal ≡ 0 → inError (after d (registers a)) a ≡ false
+
+abbrev pub UntilReported : Type 0
+UntilReported = (before : List Step) → InErrorUntil (ran freshOf before)
 
 -- nobody leaves
 abbrev pub NobodyLeaves : Type 0

@@ -25,7 +25,7 @@ pub record Registered (d : Dispatcher) (a : ℕ) : Type 0 where
   pub high : a < 248
   pub is : present d a ≡ true
 
-in-range : (a : ℕ) → outside a ≡ false → (0 < a) × (a < 248)
+pub in-range : (a : ℕ) → outside a ≡ false → (0 < a) × (a < 248)
 in-range a e = let n = or-both (ltb a 1) (ltb 247 a) e in (ltb-false a 1 (n .0), omega (arith, ltb-false 247 a (n .1)))
 
 pub registered-is : (d : Dispatcher) (a : ℕ) → T (registered d a) → Registered d a
@@ -121,8 +121,11 @@ unfolding ran
 whole-from [] d w = w
 whole-from (s ∷ ss) d w = whole-from ss (after d s) (whole-after d s w)
 
+pub whole-fresh : Whole freshOf
+whole-fresh = record { in-error = refl; ordinary = refl }
+
 pub whole-ran : (ss : List Step) → Whole (ran freshOf ss)
-whole-ran ss = whole-from ss freshOf (record { in-error = refl; ordinary = refl })
+whole-ran ss = whole-from ss freshOf whole-fresh
 
 -- ---- who is in which group after a panel entered or left
 
