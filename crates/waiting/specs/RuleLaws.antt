@@ -22,10 +22,10 @@ use Rattle.dispatcher.specs.declared.Choice.{Choice}
 use Rattle.dispatcher.specs.declared.Choice.the-variants.{Panel, Nobody}
 use Rattle.dispatcher.specs.Dispatch.{outside, present, registered, inError, member, some, panels, nextOf, errorTurn, polls, withPanel, withReport, freshOf, registerOf, reportOf, pickOf}
 use Rattle.dispatcher.specs.TurnLaws.{some-member, pick-nobody}
-use Rattle.dispatcher.specs.CallLaws.{inside}
+use Rattle.dispatcher.specs.CallLaws.{inside, in-range}
 use Rattle.waiting.specs.Steps.{Step, picks, reports, registers, after, ran, noPick}
 use Rattle.waiting.specs.Rules.{NeverTwo, NoneExactly, NoneOnlySo, ChosenRegistered, RegisterNumbers, ReportNumbers, Numbers, AtMost32, InErrorUntil, UntilReported, NobodyLeaves}
-use Rattle.waiting.specs.StepLaws.{in-range, whole-fresh, registered-is, Still, report-still, register-ways, register-still, pick-same, pick-present, pick-error, Whole, whole-after, whole-ran, entered-same, entered-other, report-error, report-ordinary, report-error-other, report-ordinary-other, report-present, report-own, report-others}
+use Rattle.waiting.specs.StepLaws.{whole-fresh, registered-is, Still, report-still, register-ways, register-still, pick-same, pick-present, pick-error, Whole, whole-after, whole-ran, entered-same, entered-other, report-error, report-ordinary, report-error-other, report-ordinary-other, report-present, report-own, report-others}
 use Rattle.waiting.specs.OrderLaws.{clash, Nearest, next-nearest}
 
 or-true : (b : Bool) → b || true ≡ true
@@ -132,13 +132,13 @@ none-exactly d = record { nobody = none-then d; only = none-only d }
 
 record Parted (d : Dispatcher) : Type 0 where
   apart : (x : ℕ) → member (d .error) x ≡ true → member (d .ordinary) x ≡ false
-  named : (x : ℕ) → present d x ≡ true → (0 < x) × (x < 248)
+  named : (x : ℕ) → present d x ≡ true → (1 ≤ x) × (x ≤ 247)
 
 -- where a dispatcher has the groups of another, but for one panel
 module _ (d c : Dispatcher) (a : ℕ) (p : Parted d)
     (error-other : (x : ℕ) → (x ≡ a → ⊥) → member (c .error) x ≡ member (d .error) x)
     (ordinary-other : (x : ℕ) → (x ≡ a → ⊥) → member (c .ordinary) x ≡ member (d .ordinary) x)
-    (here : member (c .error) a ≡ true → member (c .ordinary) a ≡ false) (range : (0 < a) × (a < 248)) where
+    (here : member (c .error) a ≡ true → member (c .ordinary) a ≡ false) (range : (1 ≤ a) × (a ≤ 247)) where
   parted-but : Parted c
   parted-but = record {
     apart = λ x e. either (eqb x a)
@@ -223,7 +223,7 @@ chosen-registered before a e = by-poll (polled-by d a e)
     d = ran freshOf before
 
     there : present d a ≡ true → T (registered d a)
-    there p = let r = parted-ran before .named a p in true-is (registered d a) (rw (inside a (r .0) (omega (arith, r .1)), p))
+    there p = let r = parted-ran before .named a p in true-is (registered d a) (rw (inside a (r .0) (r .1), p))
 
     by-poll : Polled d a → T (registered d a)
     by-poll (in-error _ m) = there (rw m)

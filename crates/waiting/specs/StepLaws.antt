@@ -16,17 +16,15 @@ use Rattle.dispatcher.specs.declared.Dispatcher.{Dispatcher}
 use Rattle.dispatcher.specs.declared.Answer.{Answer}
 use Rattle.dispatcher.specs.declared.Turn.{Turn}
 use Rattle.dispatcher.specs.Dispatch.{outside, present, registered, inError, member, some, panels, errorTurn, entered, left, withPanel, withReport, freshOf, answer, registerOf, reportOf, pickOf}
+use Rattle.dispatcher.specs.CallLaws.{in-range}
 use Rattle.waiting.specs.Steps.{Step, picks, reports, registers, after, ran}
 
 -- ---- an address that is registered
 
 pub record Registered (d : Dispatcher) (a : ℕ) : Type 0 where
   pub low : 0 < a
-  pub high : a < 248
+  pub high : a ≤ 247
   pub is : present d a ≡ true
-
-pub in-range : (a : ℕ) → outside a ≡ false → (0 < a) × (a < 248)
-in-range a e = let n = or-both (ltb a 1) (ltb 247 a) e in (ltb-false a 1 (n .0), omega (arith, ltb-false 247 a (n .1)))
 
 pub registered-is : (d : Dispatcher) (a : ℕ) → T (registered d a) → Registered d a
 registered-is d a t =
