@@ -166,7 +166,7 @@ reach g a (suc m) (picks ∷ ss) d low high is e st h j =
     ⊎-elim
     (λ c. (0, omega arith, c))
     (λ f. later m a (pickOf d .choice) (choices (after d picks) ss)
-    (reach g a m ss (after d picks) low high (st .0 a ∙ is) (st .1 ∙ e) (st .2) (omega arith) (omega arith)))
+    (reach g a m ss (after d picks) low high (pick-present d a ∙ is) (pick-error d a ∙ e) (st .2) (omega arith) (omega arith)))
     (falls d a low high g (own d a g is e))
 reach g a m (reports b x ∷ ss) d low high is e st h j =
     reach g a m ss (after d (reports b x)) low high (st .0 a ∙ is) (st .1 ∙ e) (st .2)
