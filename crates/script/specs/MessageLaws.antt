@@ -13,16 +13,22 @@ use Rattle.text.specs.Marks.{space, newline}
 use Rattle.script.specs.Collector.{noNewline}
 use Rattle.script.specs.Messages.{noPanelText, messages, messageOf, longestMessage, isMessage}
 
-unfoldable allMessages : List (List ℕ) → Bool
+unfoldable pub allMessages : List (List ℕ) → Bool
 allMessages [] = true
 allMessages (t ∷ ts) = isMessage t && allMessages ts
 
 -- the texts of a list are messages: so is each of them, and what stands for all others
-each : (ts : List (List ℕ)) (n : ℕ) (t : List ℕ) → allMessages ts ≡ true → isMessage t ≡ true → isMessage (getD ts n t) ≡ true
+pub each : (ts : List (List ℕ)) (n : ℕ) (t : List ℕ) → allMessages ts ≡ true → isMessage t ≡ true → isMessage (getD ts n t) ≡ true
 unfolding allMessages
 each [] n t a e = e
 each (u ∷ ts) zero t a e = both-true (isMessage u) (allMessages ts) a .0
 each (u ∷ ts) (suc n) t a e = each ts n t (both-true (isMessage u) (allMessages ts) a .1) e
+
+-- a message is not too long
+pub message-short : (t : List ℕ) → isMessage t ≡ true → length t ≤ longestMessage
+message-short t e =
+    leb-true (length t) longestMessage
+    (both-true (leb (length t) longestMessage) (sameText (take 2 t) (63 ∷ space ∷ []) && (eqb (getD t (length t - 1) 0) newline && noNewline (take (length t - 1) t))) e .0)
 
 -- EVERY MESSAGE IS ONE
 pub message-is : (kind : ℕ) → isMessage (messageOf kind) ≡ true
@@ -30,10 +36,7 @@ unfolding messageOf allMessages noNewline sameText
 message-is kind = each messages kind noPanelText refl refl
 
 pub message-fits : (kind : ℕ) → length (messageOf kind) ≤ longestMessage
-message-fits kind =
-    let t = messageOf kind in
-    leb-true (length t) longestMessage
-    (both-true (leb (length t) longestMessage) (sameText (take 2 t) (63 ∷ space ∷ []) && (eqb (getD t (length t - 1) 0) newline && noNewline (take (length t - 1) t))) (message-is kind) .0)
+message-fits kind = message-short (messageOf kind) (message-is kind)
 
 -- a number that is no reason of 1 to 12
 pub other-message : (kind : ℕ) → (0 < kind → 13 ≤ kind) → messageOf kind ≡ noPanelText

@@ -9,9 +9,9 @@ use script::collector::Extent;
 ghost use mathlib.Core.Path.{_≡_};
 ghost use Prim.Native.Nat.{_≤_};
 ghost use lib.ListN.{length};
-ghost use Rattle.dialog.specs.Dialog.{Ready};
+ghost use Rattle.dialog.specs.Dialog.{Ready, afterLine};
 ghost use Rattle.script.specs.Collector.{most, collected};
-ghost use Rattle.terminal.specs.Talk.{talk, answeredOf, talkedAt, talkedAll};
+ghost use Rattle.script.specs.Talk.{answeredOf, answeredAt, talkedAll};
 
 // The dialog, and the line that has not ended yet.
 struct Talk {
@@ -32,7 +32,7 @@ struct Heard {
 // A line that has ended: it is answered.
 fn answer(c: Console, bytes: &[u8], x: Extent) -> Console
     requires { ⌜ Ready c × (most ≤ length (now bytes)) ⌝ }
-    ensures is { λ r. ⌜ r ≡ answeredOf c (collected (now (bytes .entry)) x) ⌝ }
+    ensures is { λ r. ⌜ r ≡ answeredOf afterLine c (collected (now (bytes .entry)) x) ⌝ }
     ensures ready { λ r. ⌜ Ready r ⌝ }
 {
     let n = collector::held(x);
@@ -46,7 +46,7 @@ fn answer(c: Console, bytes: &[u8], x: Extent) -> Console
 // What is kept behind a byte: a line that it ends is answered.
 fn take(c: Console, bytes: &[u8], x: Extent) -> Console
     requires { ⌜ Ready c × (most ≤ length (now bytes)) ⌝ }
-    ensures is { λ r. ⌜ talk r (collected (now (bytes .entry)) x) ≡ talkedAt c (collected (now (bytes .entry)) x) ⌝ }
+    ensures is { λ r. ⌜ r ≡ answeredAt afterLine c (collected (now (bytes .entry)) x) ⌝ }
     ensures ready { λ r. ⌜ Ready r ⌝ }
 {
     if x.ended {
@@ -58,7 +58,7 @@ fn take(c: Console, bytes: &[u8], x: Extent) -> Console
 // The bytes of a piece of the input.
 fn take_all(t: Talk, bytes: &[u8]) -> Talk
     requires { ⌜ Ready (t .console) ⌝ }
-    ensures is { λ r. ⌜ r ≡ talkedAll t (now (bytes .entry)) ⌝ }
+    ensures is { λ r. ⌜ (r .console, r .collector) ≡ talkedAll afterLine (t .console, t .collector) (now (bytes .entry)) ⌝ }
     ensures ready { λ r. ⌜ Ready (r .console) ⌝ }
 {
     let l = t.collector;

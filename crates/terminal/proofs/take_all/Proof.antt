@@ -3,18 +3,19 @@ use mathlib.Core.Path.{_≡_, refl, sym, ap, _∙_}
 use Prim.Native.Nat.{_+_, _≤_, _-_}
 use native.Mathlib.Omega.{arith}
 use lib.ListN.{length, drop}
-use Rattle.dialog.specs.Dialog.{Ready}
+use Rattle.dialog.specs.declared.Console.{Console}
+use Rattle.dialog.specs.Dialog.{Ready, afterLine}
 use Rattle.script.specs.Collector.{most, collected}
-use Rattle.terminal.specs.declared.Talk.{Talk}
-use Rattle.terminal.specs.Talk.{talk, talkedAll}
-use Rattle.terminal.specs.TalkLaws.{talked-by, talked-more, talked-end}
+use Rattle.script.specs.declared.collector.Collector.{Collector}
+use Rattle.script.specs.Talk.{talkedAll}
+use Rattle.script.specs.TalkLaws.{talked-by, talked-more, talked-end}
 use borrow.Author.Needs.{needs}
 use Rattle.terminal.proofs.take_all.Statement.{statement}
 use Rattle.terminal.proofs.take_all.Tie as tie
 
 abbrev Inv-loop : tie.InvT-loop
 Inv-loop bytes held₀ x₀ c₀ i₀ held x c i =
-    Ready c × (i ≤ length bytes) × (length held ≡ most) × (talkedAll (talk c₀ (collected held₀ x₀)) bytes ≡ talkedAll (talk c (collected held x)) (drop i bytes))
+    Ready c × (i ≤ length bytes) × (length held ≡ most) × (talkedAll afterLine (c₀, collected held₀ x₀) bytes ≡ talkedAll afterLine (c, collected held x) (drop i bytes))
 
 abbrev μ-loop : tie.MeasureT-loop
 μ-loop bytes held₀ x₀ c₀ i₀ held x c i = length bytes - i
@@ -62,11 +63,11 @@ loop-again c =
     let turn = push .before .before .before in
     let l = turn .before .loop in
     let bytes = turn .before .before .before .before .before .before .before .args .bytes .now in
-    let one = talked-by (l .c) (c .take .result) (collected (l .held) (l .x)) (collected (push .push .last .0) (push .push .result)) _ (push .push .ensures) (c .take .ensures .0) in (
+    let one = talked-by afterLine (l .c) (c .take .result) (collected (l .held) (l .x)) (collected (push .push .last .0) (push .push .result)) _ (push .push .ensures) (c .take .ensures .0) in (
       c .take .ensures .1,
       omega (arith, turn .loop-test .taken),
       whole push,
-      l .inv .3 ∙ talked-more (talk (l .c) (collected (l .held) (l .x))) bytes (l .i) (turn .loop-test .taken) ∙ ap (λ (t : Talk). talkedAll t (drop (l .i + 1) bytes)) (sym one),
+      l .inv .3 ∙ talked-more afterLine (l .c, collected (l .held) (l .x)) bytes (l .i) (turn .loop-test .taken) ∙ ap (λ (t : Console × Collector). talkedAll afterLine t (drop (l .i + 1) bytes)) (sym one),
     )
 
 kept-requires : tie.Need-kept-requires Inv-loop μ-loop
@@ -76,7 +77,7 @@ returns : tie.Need-returns Inv-loop μ-loop
 returns c =
     let at = c .before .before in
     let all = rw (at .before .before .extent-of .ensures) at (at .loop .inv .3) in
-    (rw (c .kept .ensures) (sym (all ∙ talked-end _ _ _ (c .before .loop-test .left))), at .loop .inv .0)
+    (rw (c .kept .ensures) (sym (all ∙ talked-end afterLine _ _ _ (c .before .loop-test .left))), at .loop .inv .0)
 
 pub take-all-spec : {M : Type 1} → statement M
 take-all-spec =

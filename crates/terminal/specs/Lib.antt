@@ -1,3 +1,0 @@
--- The modules of this crate's definitions and laws, in the order in which to read them.
-pub mod Talk
-pub mod TalkLaws
