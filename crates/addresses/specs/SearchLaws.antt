@@ -145,3 +145,9 @@ count-none p a (suc n) e x low high =
     (λ f. either (eqb x a)
     (λ same. ap p (eqb→eq x a same) ∙ is-false (p a) f)
     (λ other. count-none p (suc a) n (omega (arith, rw (is-false (p a) f) at e)) x (omega (arith, eqb-false x a (is-false (eqb x a) other))) (omega arith)))
+
+-- and where none passes, none is counted
+pub count-zero : (p : ℕ → Bool) (a n : ℕ) → ((x : ℕ) → a ≤ x → x < a + n → p x ≡ false) → countFrom p a n ≡ 0
+unfolding countFrom
+count-zero p a zero none = refl
+count-zero p a (suc n) none = rw (none a (omega arith) (omega arith)) (omega (arith, count-zero p (suc a) n (λ x g h. none x (omega arith) (omega arith))))

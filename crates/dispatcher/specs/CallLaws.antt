@@ -2,22 +2,20 @@
 use mathlib.Core.Path.{_≡_}
 use mathlib.Core.Bool.{Bool, true, false}
 use Prim.Native.Nat.{ℕ, _≤_, _<_}
-use lib.Dec.{leb}
-use borrow.Author.Tests.{lt-ltb, le-ltb, le-leb, lt-leb}
+use lib.Dec.{ltb}
+use borrow.Author.Tests.{ltb-false, le-ltb, le-leb, lt-leb}
+use Rattle.integers.specs.TestLaws.{or-both}
 use Rattle.dispatcher.specs.declared.Dispatcher.{Dispatcher}
 use Rattle.dispatcher.specs.Dispatch.{outside, present, panels, withPanel, withReport, answer, registerOf, reportOf}
 
 -- ---- 1 to 247
 
 module _ (a : ℕ) where
-  pub below-one : a < 1 → outside a ≡ true
-  below-one h = rw (lt-ltb a 1 h)
-
-  pub above-247 : 1 ≤ a → 247 < a → outside a ≡ true
-  above-247 h k = rw (le-ltb a 1 h, lt-ltb 247 a k)
-
   pub inside : 1 ≤ a → a ≤ 247 → outside a ≡ false
   inside h k = rw (le-ltb a 1 h, le-ltb 247 a k)
+
+  pub in-range : outside a ≡ false → (1 ≤ a) × (a ≤ 247)
+  in-range e = let n = or-both (ltb a 1) (ltb 247 a) e in (ltb-false a 1 (n .0), ltb-false 247 a (n .1))
 
 module _ (d : Dispatcher) (a : ℕ) where
   -- ---- a registration

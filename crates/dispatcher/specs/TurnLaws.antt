@@ -1,5 +1,5 @@
 -- The laws of a turn: when a group has a next member, and which group a pick polls.
-use mathlib.Core.Path.{_≡_, refl, sym, _∙_, ap}
+use mathlib.Core.Path.{_≡_, refl, sym, _∙_, ap, ap₂}
 use mathlib.Core.Bool.{Bool, true, false, not, _&&_}
 use Prim.Native.Nat.{ℕ, suc, _-_, _<_}
 use native.Mathlib.Omega.{arith}
@@ -79,10 +79,14 @@ module _ (d : Dispatcher) where
   unfolding pickOf errorTurn
   pick-ordinary-alone e o = rw (e, o)
 
-  -- or the last poll was of one in error
+  -- or the last poll was of one in error: another such is barred
+  barred : some (d .ordinary) ≡ true → d .faulty ≡ true → errorTurn d ≡ false
+  unfolding errorTurn
+  barred o f = ap₂ (λ (x y : Bool). some (d .error) && not (x && y)) f o ∙ and-false (some (d .error))
+
   pub pick-ordinary-between : some (d .ordinary) ≡ true → d .faulty ≡ true → pickOf d ≡ polls d false
-  unfolding pickOf errorTurn
-  pick-ordinary-between o f = rw (o, f, and-false (some (d .error)))
+  unfolding pickOf
+  pick-ordinary-between o f = rw (barred o f, o)
 
   -- the group that comes first is the other one than that of the last poll, if it has a panel
   pub pick-first : (f : Bool) → d .faulty ≡ f → some (groupOf d (not f)) ≡ true → pickOf d ≡ polls d (not f)

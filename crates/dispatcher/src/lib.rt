@@ -1,12 +1,14 @@
 // One PC polls up to 32 panels on a line; the dispatcher picks the panel that is polled next (paper 02, K12).
 // Uses `addresses` for the panels of a group; knows addresses and reports, no panel and no line. Every value of `Dispatcher` is one, so nothing is asked of it.
 ghost use mathlib.Core.Path.{_≡_};
-ghost use Rattle.dispatcher.specs.Dispatch.{freshOf, groupOf, nextOf, entered, left, polledOf, withPanel, withReport, present, panels, registerOf, answer, reportOf, pickOf};
+ghost use Rattle.dispatcher.specs.Dispatch.{freshOf, groupOf, nextOf, entered, left, polledOf, withPanel, withReport, outside, present, panels, registerOf, answer, reportOf, pickOf};
 
 // The most panels on a line.
 const MOST: usize = 32;
 
-// The highest address that a panel may have.
+// The addresses that a panel may have.
+const LOWEST: u32 = 1;
+
 const HIGHEST: u32 = 247;
 
 // The refusals: no such address, or no panel there; an address already present; a panel too many.
@@ -138,6 +140,13 @@ fn polled(d: Dispatcher, error: bool, a: u8) -> Turn
     }
 }
 
+// Whether no panel may have an address.
+fn is_outside(address: u32) -> bool
+    ensures { λ r. ⌜ r ≡ outside address ⌝ }
+{
+    address < LOWEST || HIGHEST < address
+}
+
 // Whether a panel is registered at an address.
 fn is_present(d: Dispatcher, a: u8) -> bool
     ensures { λ r. ⌜ r ≡ present d a ⌝ }
@@ -209,10 +218,7 @@ fn refused(d: Dispatcher, refusal: u8) -> Answer
 pub fn register(d: Dispatcher, address: u32) -> Answer
     ensures { λ r. ⌜ r ≡ registerOf d address ⌝ }
 {
-    if address < 1 {
-        return refused(d, NO_PANEL);
-    }
-    if HIGHEST < address {
+    if is_outside(address) {
         return refused(d, NO_PANEL);
     }
     let a = address as u8;
@@ -232,10 +238,7 @@ pub fn register(d: Dispatcher, address: u32) -> Answer
 pub fn report(d: Dispatcher, address: u32, error: bool) -> Answer
     ensures { λ r. ⌜ r ≡ reportOf d address error ⌝ }
 {
-    if address < 1 {
-        return refused(d, NO_PANEL);
-    }
-    if HIGHEST < address {
+    if is_outside(address) {
         return refused(d, NO_PANEL);
     }
     let a = address as u8;
