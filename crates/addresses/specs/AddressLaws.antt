@@ -1,13 +1,13 @@
--- The laws of a set of addresses: with an address and without it, every other stays; and what a word and its lowest bit say of the search.
+-- The laws of a set of addresses: with an address and without it, every other stays; what a word and its lowest bit say of the search; and the empty set.
 use mathlib.Core.Path.{_≡_, refl, sym, _∙_, ap, ap₂}
 use mathlib.Core.Bool.{Bool, true, false}
 use mathlib.Core.List.{List}
 use mathlib.Core.Logic.{_⊎_, inl, inr}
-use Prim.Native.Nat.{ℕ, suc, _+_, _-_, _*_, _/_, _%_, _^_, _≤_, _<_, max, min}
+use Prim.Native.Nat.{ℕ, zero, suc, _+_, _-_, _*_, _/_, _%_, _^_, _≤_, _<_, max, min}
 use native.Mathlib.Nat.{one-mul}
 use native.Mathlib.Omega.{arith}
 use borrow.Author.Tests.{eq-eqb, ne-eqb, eqb-true, eqb-false}
-use lib.Bits.{bitAnd, bitOr, bitXor, differ}
+use lib.Bits.{bitAnd, bitOr, bitXor, differ, and-le-l, and-le-r, or-add-and}
 use lib.Count.{trailingZeros}
 use lib.Dec.{lit<, eqb, eqb→eq}
 use lib.ListN.{length, getD, set}
@@ -16,9 +16,9 @@ use lib.Seq.{getD-set-same, getD-set-other}
 use Rattle.integers.specs.ChoiceLaws.{either, is-true, is-false}
 use Rattle.bits.specs.Bits.{bitAt}
 use Rattle.bits.specs.BitLaws.{two, bit-lt, bit-none, bit-and, bit-or, bit-xor, bit-shr, bit-power, bit-power-other, LowestBit, lowest-bit}
-use Rattle.addresses.specs.Addresses.{wordAt, holds, including, excluding}
-use Rattle.addresses.specs.Search.{lowestFrom}
-use Rattle.addresses.specs.SearchLaws.{Lowest, lowest-found, lowest-past}
+use Rattle.addresses.specs.Addresses.{wordAt, holds, isEmpty, including, excluding}
+use Rattle.addresses.specs.Search.{lowestFrom, lowestAbove}
+use Rattle.addresses.specs.SearchLaws.{Lowest, lowest-is, lowest-found, lowest-past}
 
 -- a bit that is 0 is not 1
 not-one : {b : ℕ} → b ≡ 0 → eqb b 1 ≡ false
@@ -154,3 +154,37 @@ module _ (ws : List ℕ) (at : ℕ) where
     where
       fits : restAt < 2 ^ (64 - at % 64)
       fits = shr-lt (64 - at % 64) (at % 64) (let e : 64 ≡ (64 - at % 64) + at % 64 = omega arith in rw (← e) small)
+
+-- ---- an empty set
+
+or-zero : (a b : ℕ) → bitOr a b ≡ 0 → (a ≡ 0) × (b ≡ 0)
+or-zero a b e = (omega (arith, or-add-and a b, and-le-l a b, and-le-r a b), omega (arith, or-add-and a b, and-le-l a b, and-le-r a b))
+
+-- each of the four words is 0
+word-zero : (ws : List ℕ) → isEmpty ws ≡ true → (i : ℕ) → i < 4 → getD ws i 0 ≡ 0
+unfolding isEmpty
+word-zero ws e i h = by-word i h
+  where
+    halves : (bitOr (getD ws 0 0) (getD ws 1 0) ≡ 0) × (bitOr (getD ws 2 0) (getD ws 3 0) ≡ 0)
+    halves = or-zero (bitOr (getD ws 0 0) (getD ws 1 0)) (bitOr (getD ws 2 0) (getD ws 3 0)) (eqb-true _ 0 e)
+
+    by-word : (i : ℕ) → i < 4 → getD ws i 0 ≡ 0
+    by-word zero h = or-zero (getD ws 0 0) (getD ws 1 0) (halves .0) .0
+    by-word (suc zero) h = or-zero (getD ws 0 0) (getD ws 1 0) (halves .0) .1
+    by-word (suc (suc zero)) h = or-zero (getD ws 2 0) (getD ws 3 0) (halves .1) .0
+    by-word (suc (suc (suc zero))) h = or-zero (getD ws 2 0) (getD ws 3 0) (halves .1) .1
+    by-word (suc (suc (suc (suc i)))) h = absurd (omega arith)
+
+pub empty-holds : (ws : List ℕ) → isEmpty ws ≡ true → (a : ℕ) → a < 256 → holds ws a ≡ false
+unfolding holds
+empty-holds ws e a h = not-one (ap (bitAt (a % 64)) (word-zero ws e (a / 64) (omega arith)) ∙ bit-none (a % 64))
+
+-- so the search finds none
+pub empty-lowest : (ws : List ℕ) → isEmpty ws ≡ true → (k : ℕ) → lowestAbove (holds ws) k ≡ 0
+empty-lowest ws e k =
+    let b = lowestAbove (holds ws) k in
+    either (eqb b 0) (λ t. eqb→eq b 0 t)
+    (λ f. let n = eqb-false b 0 (is-false (eqb b 0) f) in
+    let r = lowest-is (holds ws) (suc k) (255 - k) b refl (omega arith) in
+    let z : _≡_ {A = ℕ} 0 1 = cc (empty-holds ws e b (omega arith), r .passes) in
+    absurd (omega arith))

@@ -16,6 +16,10 @@ wordAt ws a = getD ws (a / 64) 0
 unfoldable pub holds : List ℕ → ℕ → Bool
 holds ws a = eqb (bitAt (a % 64) (wordAt ws a)) 1
 
+-- no address is in a set: all its words are 0
+unfoldable pub isEmpty : List ℕ → Bool
+isEmpty ws = eqb (bitOr (bitOr (getD ws 0 0) (getD ws 1 0)) (bitOr (getD ws 2 0) (getD ws 3 0))) 0
+
 -- a set with an address: its bit is set
 unfoldable pub including : List ℕ → ℕ → List ℕ
 including ws a = set ws (a / 64) (bitOr (wordAt ws a) (2 ^ (a % 64)))

@@ -1,8 +1,8 @@
-// A set of addresses, 0 to 255, as four words of 64 bits: whether one is in it, it with and without one, and the lowest above one.
+// A set of addresses, 0 to 255, as four words of 64 bits: whether one is in it, whether none is, it with and without one, and the lowest above one.
 // Uses the laws of `bits` and `integers`; knows no panels and no turns.
 ghost use mathlib.Core.Path.{_≡_};
 ghost use Prim.Native.Nat.{_<_};
-ghost use Rattle.addresses.specs.Addresses.{wordAt, holds, including, excluding};
+ghost use Rattle.addresses.specs.Addresses.{wordAt, holds, isEmpty, including, excluding};
 ghost use Rattle.addresses.specs.Search.{lowestAbove};
 
 // The word that an address stands in.
@@ -43,10 +43,20 @@ pub fn without(words: [u64; 4], a: u8) -> [u64; 4]
     n
 }
 
+// Whether no address is in a set.
+pub fn is_empty(words: [u64; 4]) -> bool
+    ensures { λ r. ⌜ r ≡ isEmpty words ⌝ }
+{
+    ((words[0] | words[1]) | (words[2] | words[3])) == 0
+}
+
 // The lowest address of a set above one, 0 where there is none: word by word, by the zeros below a word's lowest bit.
-pub fn lowest_above(words: [u64; 4], above: u8) -> u8
+pub fn lowest_above(words: [u64; 4], above: u64) -> u8
     ensures { λ r. ⌜ r ≡ lowestAbove (holds words) above ⌝ }
 {
+    if 255 <= above {
+        return 0;
+    }
     let mut at = above as usize + 1;
     while at < 256 {
         let rest = word_at(words, at) >> (at % 64);

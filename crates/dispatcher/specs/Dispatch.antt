@@ -51,9 +51,13 @@ panels d = countAll (present d)
 unfoldable pub nextOf : Group → ℕ
 nextOf g = cond (eqb (lowestAbove (member g) (g .last)) 0) (lowestAbove (member g) 0) (lowestAbove (member g) (g .last))
 
+-- the last poll of all was of a panel in error
+abbrev pub afterError : Dispatcher → Bool
+afterError d = eqb (d .faulty) 1
+
 -- "Panels in error go first, but never two such polls in a row while an ordinary panel is registered"
 unfoldable pub errorTurn : Dispatcher → Bool
-errorTurn d = some (d .error) && not (d .faulty && some (d .ordinary))
+errorTurn d = some (d .error) && not (afterError d && some (d .ordinary))
 
 -- ---- what changes
 
@@ -61,7 +65,7 @@ abbrev pub emptyGroup : Group
 emptyGroup = record { members = replicate 4 0; last = 0 }
 
 abbrev pub freshOf : Dispatcher
-freshOf = record { error = emptyGroup; ordinary = emptyGroup; faulty = false }
+freshOf = record { error = emptyGroup; ordinary = emptyGroup; faulty = 0 }
 
 abbrev pub entered : Group → ℕ → Group
 entered g a = record { members = including (g .members) a; last = g .last }
@@ -83,8 +87,8 @@ abbrev pub polledBy : Group → ℕ → Group
 polledBy g a = record { members = g .members; last = a }
 
 abbrev pub keptOf : Dispatcher → Bool → ℕ → Dispatcher
-keptOf d true a = record { error = polledBy (d .error) a; ordinary = d .ordinary; faulty = true }
-keptOf d false a = record { error = d .error; ordinary = polledBy (d .ordinary) a; faulty = false }
+keptOf d true a = record { error = polledBy (d .error) a; ordinary = d .ordinary; faulty = 1 }
+keptOf d false a = record { error = d .error; ordinary = polledBy (d .ordinary) a; faulty = 0 }
 
 -- ---- what each call answers
 

@@ -6,12 +6,14 @@ use native.Mathlib.Omega.{arith}
 use lib.Dec.{eqb, eqb→eq}
 use borrow.Author.Tests.{eqb-false, eq-eqb, ne-eqb}
 use Rattle.integers.specs.ChoiceLaws.{either, is-false}
+use Rattle.addresses.specs.Addresses.{isEmpty}
+use Rattle.addresses.specs.AddressLaws.{empty-lowest}
 use Rattle.addresses.specs.Search.{lowestAbove}
 use Rattle.addresses.specs.SearchLaws.{lowest-none, lowest-is}
 use Rattle.dispatcher.specs.declared.Group.{Group}
 use Rattle.dispatcher.specs.declared.Dispatcher.{Dispatcher}
 use Rattle.dispatcher.specs.declared.Choice.the-variants.{Nobody}
-use Rattle.dispatcher.specs.Dispatch.{groupOf, member, some, nextOf, errorTurn, polls, pickOf}
+use Rattle.dispatcher.specs.Dispatch.{groupOf, member, some, nextOf, afterError, errorTurn, polls, pickOf}
 
 -- ---- a group with a member, and one with none
 
@@ -53,6 +55,10 @@ module _ (g : Group) where
       let r = lowest-is (member g) (suc (g .last)) (255 - g .last) higher refl (omega arith) in
       some-member higher (omega arith) (omega arith) (r .passes))
 
+-- a group whose set is empty
+pub next-empty : (g : Group) → isEmpty (g .members) ≡ true → 0 ≡ nextOf g
+next-empty g e = sym (next-lowest g (empty-lowest (g .members) e (g .last)) ∙ empty-lowest (g .members) e 0)
+
 -- ---- which group a pick polls
 
 and-false : (b : Bool) → b && false ≡ false
@@ -67,10 +73,10 @@ module _ (d : Dispatcher) where
   -- a panel in error, where no ordinary one is registered
   pub pick-error-alone : some (d .error) ≡ true → some (d .ordinary) ≡ false → pickOf d ≡ polls d true
   unfolding pickOf errorTurn
-  pick-error-alone e o = rw (e, o, and-false (d .faulty))
+  pick-error-alone e o = rw (e, o, and-false (afterError d))
 
   -- or the last poll was of an ordinary one
-  pub pick-error-first : some (d .error) ≡ true → d .faulty ≡ false → pickOf d ≡ polls d true
+  pub pick-error-first : some (d .error) ≡ true → afterError d ≡ false → pickOf d ≡ polls d true
   unfolding pickOf errorTurn
   pick-error-first e f = rw (e, f)
 
@@ -80,20 +86,20 @@ module _ (d : Dispatcher) where
   pick-ordinary-alone e o = rw (e, o)
 
   -- or the last poll was of one in error: another such is barred
-  barred : some (d .ordinary) ≡ true → d .faulty ≡ true → errorTurn d ≡ false
+  barred : some (d .ordinary) ≡ true → afterError d ≡ true → errorTurn d ≡ false
   unfolding errorTurn
   barred o f = ap₂ (λ (x y : Bool). some (d .error) && not (x && y)) f o ∙ and-false (some (d .error))
 
-  pub pick-ordinary-between : some (d .ordinary) ≡ true → d .faulty ≡ true → pickOf d ≡ polls d false
+  pub pick-ordinary-between : some (d .ordinary) ≡ true → afterError d ≡ true → pickOf d ≡ polls d false
   unfolding pickOf
   pick-ordinary-between o f = rw (barred o f, o)
 
   -- the group that comes first is the other one than that of the last poll, if it has a panel
-  pub pick-first : (f : Bool) → d .faulty ≡ f → some (groupOf d (not f)) ≡ true → pickOf d ≡ polls d (not f)
+  pub pick-first : (f : Bool) → afterError d ≡ f → some (groupOf d (not f)) ≡ true → pickOf d ≡ polls d (not f)
   pick-first true e s = pick-ordinary-between s e
   pick-first false e s = pick-error-first s e
 
-  pub pick-second : (f : Bool) → d .faulty ≡ f → some (groupOf d (not f)) ≡ false → some (groupOf d f) ≡ true → pickOf d ≡ polls d f
+  pub pick-second : (f : Bool) → afterError d ≡ f → some (groupOf d (not f)) ≡ false → some (groupOf d f) ≡ true → pickOf d ≡ polls d f
   pick-second true e n s = pick-error-alone s n
   pick-second false e n s = pick-ordinary-alone n s
 

@@ -22,8 +22,8 @@ const TOO_MANY: u8 = 28;
 pub struct Group {
     // Their addresses, address a as bit a % 64 of word a / 64.
     pub members: [u64; 4],
-    // The address that the group polled last, 0 for none yet.
-    pub last: u8,
+    // The address that the group polled last, 0 for none yet. A word, like the mark below: nothing lies between the fields then, and a copy is fast.
+    pub last: u64,
 }
 
 // The panels of a line, and where the polling stands.
@@ -32,8 +32,8 @@ pub struct Dispatcher {
     pub error: Group,
     // The other ones.
     pub ordinary: Group,
-    // Whether the last poll of all was of a panel in error.
-    pub faulty: bool,
+    // 1 where the last poll of all was of a panel in error.
+    pub faulty: u64,
 }
 
 // What registering and reporting answer.
@@ -73,7 +73,7 @@ pub fn fresh() -> Dispatcher
             members: [0; 4],
             last: 0,
         },
-        faulty: false,
+        faulty: 0,
     }
 }
 
@@ -94,6 +94,9 @@ fn next(g: Group) -> u8
     ensures { λ r. ⌜ r ≡ nextOf g ⌝ }
 {
     let members = g.members;
+    if addresses::is_empty(members) {
+        return 0;
+    }
     let higher = addresses::lowest_above(members, g.last);
     if higher == 0 {
         return addresses::lowest_above(members, 0);
@@ -127,12 +130,14 @@ fn leave(g: Group, a: u8) -> Group
 fn polled(d: Dispatcher, error: bool, a: u8) -> Turn
     ensures { λ r. ⌜ r ≡ polledOf d error a ⌝ }
 {
+    let last = a as u64;
     let mut n = d;
-    n.faulty = error;
     if error {
-        n.error.last = a;
+        n.error.last = last;
+        n.faulty = 1;
     } else {
-        n.ordinary.last = a;
+        n.ordinary.last = last;
+        n.faulty = 0;
     }
     Turn {
         dispatcher: n,
@@ -255,12 +260,12 @@ pub fn report(d: Dispatcher, address: u32, error: bool) -> Answer
 pub fn pick(d: Dispatcher) -> Turn
     ensures { λ r. ⌜ r ≡ pickOf d ⌝ }
 {
-    let first = !d.faulty;
+    let first = d.faulty != 1;
     let a = next(group_of(d, first));
     if a != 0 {
         return polled(d, first, a);
     }
-    let second = d.faulty;
+    let second = d.faulty == 1;
     let b = next(group_of(d, second));
     if b != 0 {
         return polled(d, second, b);

@@ -19,7 +19,7 @@ use Rattle.dispatcher.specs.declared.Dispatcher.{Dispatcher}
 use Rattle.dispatcher.specs.declared.Turn.{Turn}
 use Rattle.dispatcher.specs.declared.Choice.{Choice}
 use Rattle.dispatcher.specs.declared.Choice.the-variants.{Panel}
-use Rattle.dispatcher.specs.Dispatch.{groupOf, member, some, inError, present, panels, freshOf, nextOf, keptOf, polls, pickOf}
+use Rattle.dispatcher.specs.Dispatch.{groupOf, member, some, inError, present, panels, freshOf, nextOf, afterError, keptOf, polls, pickOf}
 use Rattle.dispatcher.specs.TurnLaws.{some-member, pick-first, pick-second}
 use Rattle.waiting.specs.Steps.{Step, picks, reports, registers, after, ran, choices}
 use Rattle.waiting.specs.Promise.{Steady, PolledWithin, Promise, quiet, QuietPromise}
@@ -39,9 +39,9 @@ own d a false p e = rw e at p
 module _ (d : Dispatcher) (a : ℕ) (low : 0 < a) (high : a < 256) where
   -- a pick polls the group of a, or the other one after a poll of a's
   abbrev Polls : Bool → Type 0
-  Polls g = (pickOf d ≡ polls d g) ⊎ ((pickOf d ≡ polls d (not g)) × (d .faulty ≡ g))
+  Polls g = (pickOf d ≡ polls d g) ⊎ ((pickOf d ≡ polls d (not g)) × (afterError d ≡ g))
 
-  which : (g f : Bool) → d .faulty ≡ f → member (groupOf d g) a ≡ true → Polls g
+  which : (g f : Bool) → afterError d ≡ f → member (groupOf d g) a ≡ true → Polls g
   which true true e is =
       let s = some-member (d .error) a low high is in
       either (some (d .ordinary)) (λ t. inr (pick-first d true e (is-true (some (d .ordinary)) t), e)) (λ n. inl (pick-second d true e (is-false (some (d .ordinary)) n) s))
@@ -98,7 +98,7 @@ waits-own true = refl
 waits-own false = refl
 
 remaining : Dispatcher → Bool → ℕ → ℕ
-remaining d g a = 2 * rivals (present d) (groupOf d g .last) a + waits (d .faulty) g
+remaining d g a = 2 * rivals (present d) (groupOf d g .last) a + waits (afterError d) g
 
 -- after a poll of the group, and after one of the other
 remaining-own : (d : Dispatcher) (g : Bool) (a b : ℕ) → remaining (keptOf d g b) g a ≤ 2 * rivals (present d) b a + 1
@@ -141,7 +141,7 @@ module _ (d : Dispatcher) (a : ℕ) (low : 0 < a) (high : a < 256) where
       let f = rivals-fewer (present d) k a b high (m .address) (m .below) (member-present d g b (m .passes)) (omega arith) in
       inr (omega (arith, remaining-own d g a b)))
 
-  other-falls : (g : Bool) → d .faulty ≡ g → Falls g (polls d (not g))
+  other-falls : (g : Bool) → afterError d ≡ g → Falls g (polls d (not g))
   unfolding Falls remaining
   other-falls g e = inr (omega (arith, remaining-other d g a (nextOf (groupOf d (not g))), ap (λ (f : Bool). waits f g) e, waits-own g))
 
@@ -150,7 +150,7 @@ module _ (d : Dispatcher) (a : ℕ) (low : 0 < a) (high : a < 256) where
       ⊎-elim
       (λ e. subst (Falls g) (sym e) (own-falls g is))
       (λ w. subst (Falls g) (sym (w .0)) (other-falls g (w .1)))
-      (which d a low high g (d .faulty) refl is)
+      (which d a low high g (afterError d) refl is)
 
 -- ---- the list
 
@@ -181,7 +181,7 @@ unfolding remaining
 promise d a ss t st h =
     let r = registered-is d a t in
     reach (inError d a) a (2 * panels d) ss d (r .low) (omega arith) (r .is) refl st
-    (omega (arith, rivals-most (present d) (groupOf d (inError d a) .last) a (r .low) (omega arith) (r .is), waits-most (d .faulty) (inError d a)))
+    (omega (arith, rivals-most (present d) (groupOf d (inError d a) .last) a (r .low) (omega arith) (r .is), waits-most (afterError d) (inError d a)))
     h
 
 -- ---- picks and reports alone

@@ -20,7 +20,7 @@ use Rattle.dispatcher.specs.declared.Answer.{Answer}
 use Rattle.dispatcher.specs.declared.Turn.{Turn}
 use Rattle.dispatcher.specs.declared.Choice.{Choice}
 use Rattle.dispatcher.specs.declared.Choice.the-variants.{Panel, Nobody}
-use Rattle.dispatcher.specs.Dispatch.{outside, present, registered, inError, member, some, panels, nextOf, errorTurn, polls, withPanel, withReport, freshOf, registerOf, reportOf, pickOf}
+use Rattle.dispatcher.specs.Dispatch.{outside, present, registered, inError, member, some, panels, nextOf, afterError, errorTurn, polls, withPanel, withReport, freshOf, registerOf, reportOf, pickOf}
 use Rattle.dispatcher.specs.TurnLaws.{some-member, pick-nobody}
 use Rattle.dispatcher.specs.CallLaws.{inside, in-range}
 use Rattle.waiting.specs.Steps.{Step, picks, reports, registers, after, ran, noPick}
@@ -110,7 +110,7 @@ module _ (d : Dispatcher) where
   no-groups =
       by-test (errorTurn d) _ _ Q (λ _ e. absurd (chosen _ e))
       (λ f. by-test (some (d .ordinary)) _ _ Q (λ _ e. absurd (chosen _ e))
-      (λ o _. (no-error (some (d .error)) (d .faulty) (some (d .ordinary)) (is-false (some (d .ordinary)) o) (is-false (errorTurn d) f), is-false (some (d .ordinary)) o)))
+      (λ o _. (no-error (some (d .error)) (afterError d) (some (d .ordinary)) (is-false (some (d .ordinary)) o) (is-false (errorTurn d) f), is-false (some (d .ordinary)) o)))
     where
       Q : Turn → Type 0
       Q t = t .choice ≡ Nobody → (some (d .error) ≡ false) × (some (d .ordinary) ≡ false)
@@ -191,11 +191,11 @@ parted-ran ss =
 -- ---- what a pick chooses
 
 -- a turn of those in error: there is one, and no ordinary one after a poll of one in error
-turn-halves : (d : Dispatcher) → errorTurn d ≡ true → (some (d .error) ≡ true) × (d .faulty ≡ true → some (d .ordinary) ≡ false)
+turn-halves : (d : Dispatcher) → errorTurn d ≡ true → (some (d .error) ≡ true) × (afterError d ≡ true → some (d .ordinary) ≡ false)
 unfolding errorTurn
 turn-halves d e =
-    let h = and-both (some (d .error)) (not (d .faulty && some (d .ordinary))) e in
-    (h .0, λ f. rw f at (not-true (d .faulty && some (d .ordinary)) (h .1)))
+    let h = and-both (some (d .error)) (not (afterError d && some (d .ordinary))) e in
+    (h .0, λ f. rw f at (not-true (afterError d && some (d .ordinary)) (h .1)))
 
 -- the poll of a group's next panel
 pub data Polled (d : Dispatcher) (a : ℕ) : Type 0 where
@@ -246,7 +246,7 @@ error-turn d a p e i = by-poll (polled-by d a e)
     by-poll (in-error t _) = t
     by-poll (ordinary _ m) = absurd (clash (p .apart a (is-true (inError d a) i)) m)
 
-after-error : (d : Dispatcher) → errorTurn d ≡ true → after d picks .faulty ≡ true
+after-error : (d : Dispatcher) → errorTurn d ≡ true → after d picks .faulty ≡ 1
 unfolding after pickOf
 after-error d e =
     ap (λ (b : Bool). cond b (polls d true) (cond (some (d .ordinary)) (polls d false) (record { dispatcher = d; choice = Nobody })) .dispatcher .faulty) e
@@ -258,7 +258,7 @@ never-two before between a b quiet e i f j x t =
     let w = whole-ran before in
     let p = parted-ran before in
     let q = parted-from between (after d picks) (whole-after d picks w) (parted-after d picks w p) in
-    let fault = between-still between (after d picks) quiet ∙ after-error d (error-turn d a p e i) in
+    let fault = ap (λ (n : ℕ). eqb n 1) (between-still between (after d picks) quiet ∙ after-error d (error-turn d a p e i)) in
     let none = turn-halves c (error-turn c b q f j) .1 fault in
     let r = registered-is c x t in
     either (inError c x) (λ y. y)

@@ -17,12 +17,17 @@ Inv-loop words above at₀ at = (at ≤ 256) × (lowestAbove (holds words) above
 abbrev μ-loop : tie.MeasureT-loop
 μ-loop words above at₀ at = 256 - at
 
+-- no address is above
+returns : tie.Need-returns Inv-loop μ-loop
+unfolding lowestFrom
+returns c = let n : 255 - c .before .args .above ≡ 0 = omega arith in rw n
+
 add-at : tie.Need-add-at Inv-loop μ-loop
 add-at c = search needs
 
 loop-holds : tie.Need-loop-holds Inv-loop μ-loop
 loop-holds c =
-    let n : 255 - c .args .above ≡ 256 - (c .args .above + 1) = omega arith in
+    let n : 255 - c .before .args .above ≡ 256 - (c .before .args .above + 1) = omega arith in
     (omega arith, rw (n, add-one))
 
 word-at-requires : tie.Need-word-at-requires Inv-loop μ-loop
@@ -32,15 +37,15 @@ shr-rest : tie.Need-shr-rest Inv-loop μ-loop
 shr-rest c = search needs
 
 -- what is left of a word that has a bit set: the lowest is found, and stands in this word
-found : (c : tie.Then1 Inv-loop μ-loop) →
+found : (c : tie.Then2 Inv-loop μ-loop) →
     let l = c .before .before .before .loop in
     let zeros = trailingZeros 64 (c .before .word-at .result / 2 ^ (l .at % 64)) in
-    (lowestFrom (holds (c .before .before .before .before .args .words)) (l .at) (256 - l .at) ≡ l .at + zeros) × (zeros < 64 - l .at % 64)
+    (lowestFrom (holds (c .before .before .before .before .before .args .words)) (l .at) (256 - l .at) ≡ l .at + zeros) × (zeros < 64 - l .at % 64)
 found c =
     let w = c .before .word-at in
     let l = c .before .before .before .loop in
     let small : w .result < 2 ^ 64 = search needs in
-    rw (w .ensures) (rest-some (c .before .before .before .before .args .words) (l .at) (omega arith) (omega (arith, w .ensures)) (rw (w .ensures) at (c .if1 .taken)))
+    rw (w .ensures) (rest-some (c .before .before .before .before .before .args .words) (l .at) (omega arith) (omega (arith, w .ensures)) (rw (w .ensures) at (c .if2 .taken)))
 
 cast-zeros : tie.Need-cast-zeros Inv-loop μ-loop
 cast-zeros c = omega (arith, found c .1)
@@ -51,8 +56,8 @@ add-result c = omega (arith, found c .1)
 cast-result : tie.Need-cast-result Inv-loop μ-loop
 cast-result c = omega (arith, found c .1)
 
-returns : tie.Need-returns Inv-loop μ-loop
-returns c = sym (c .before .before .before .loop .inv .1 ∙ found c .0)
+returns-2 : tie.Need-returns-2 Inv-loop μ-loop
+returns-2 c = sym (c .before .before .before .loop .inv .1 ∙ found c .0)
 
 add-at-2 : tie.Need-add-at-2 Inv-loop μ-loop
 add-at-2 c = omega arith
@@ -67,12 +72,12 @@ loop-again : tie.Need-loop-again Inv-loop μ-loop
 loop-again c =
     let w = c .before .word-at in
     let l = c .before .before .before .loop in
-    let words = c .before .before .before .before .args .words in
-    (omega arith, l .inv .1 ∙ rest-none words (l .at) (omega arith) (rw (w .ensures) at (c .if1 .left)))
+    let words = c .before .before .before .before .before .args .words in
+    (omega arith, l .inv .1 ∙ rest-none words (l .at) (omega arith) (rw (w .ensures) at (c .if2 .left)))
 
-returns-2 : tie.Need-returns-2 Inv-loop μ-loop
+returns-3 : tie.Need-returns-3 Inv-loop μ-loop
 unfolding lowestFrom
-returns-2 c =
+returns-3 c =
     let n : 256 - c .before .loop .at ≡ 0 = omega arith in
     sym (rw n at (c .before .loop .inv .1))
 
@@ -82,6 +87,7 @@ lowest-above-spec =
     (tie.spec
     Inv-loop
     μ-loop
+    returns
     add-at
     loop-holds
     word-at-requires
@@ -89,9 +95,9 @@ lowest-above-spec =
     cast-zeros
     add-result
     cast-result
-    returns
+    returns-2
     add-at-2
     mul-at
     loop-less
     loop-again
-    returns-2)
+    returns-3)
