@@ -1,19 +1,19 @@
 -- The laws of a set of addresses: with an address and without it, every other stays; what a word and its lowest bit say of the search; and the empty set.
 use mathlib.Core.Path.{_≡_, refl, sym, _∙_, ap, ap₂}
-use mathlib.Core.Bool.{Bool, true, false}
+use mathlib.Core.Bool.{true, false}
 use mathlib.Core.List.{List}
 use mathlib.Core.Logic.{_⊎_, inl, inr}
 use Prim.Native.Nat.{ℕ, zero, suc, _+_, _-_, _*_, _/_, _%_, _^_, _≤_, _<_, max, min}
 use native.Mathlib.Nat.{one-mul}
 use native.Mathlib.Omega.{arith}
-use borrow.Author.Tests.{eq-eqb, ne-eqb, eqb-true, eqb-false}
+use borrow.Author.Tests.{eq-eqb, eqb-true, eqb-false}
 use lib.Bits.{bitAnd, bitOr, bitXor, differ, and-le-l, and-le-r, or-add-and}
 use lib.Count.{trailingZeros}
 use lib.Dec.{lit<, eqb, eqb→eq}
 use lib.ListN.{length, getD, set}
 use lib.Pow.{shl-exact, shr-lt}
 use lib.Seq.{getD-set-same, getD-set-other}
-use Rattle.integers.specs.ChoiceLaws.{either, is-true, is-false}
+use Rattle.integers.specs.ChoiceLaws.{either, is-false}
 use Rattle.bits.specs.Bits.{bitAt}
 use Rattle.bits.specs.BitLaws.{two, bit-lt, bit-none, bit-and, bit-or, bit-xor, bit-shr, bit-power, bit-power-other, LowestBit, lowest-bit}
 use Rattle.addresses.specs.Addresses.{wordAt, holds, isEmpty, including, excluding}

@@ -1,11 +1,11 @@
 -- The laws of the search and the count: what the lowest is, where it is found, that fewer pass a narrower test, and a loop's next turn. Assumes nothing.
 use mathlib.Core.Path.{_≡_, refl, sym, _∙_, ap}
-use mathlib.Core.Bool.{Bool, true, false, not, cond}
+use mathlib.Core.Bool.{Bool, true, false, cond}
 use Prim.Native.Nat.{ℕ, zero, suc, _+_, _-_, _≤_, _<_}
 use native.Mathlib.Nat.{zero-add, add-zero, suc-add, add-suc}
 use native.Mathlib.Numerals.{add-one}
 use native.Mathlib.Omega.{arith}
-use lib.Dec.{T, eqb, eqb→eq}
+use lib.Dec.{eqb, eqb→eq}
 use borrow.Author.Tests.{eqb-false}
 use Rattle.integers.specs.ChoiceLaws.{by-test, either, is-true, is-false}
 use Rattle.addresses.specs.Search.{lowestFrom, countFrom}

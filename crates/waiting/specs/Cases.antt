@@ -1,5 +1,5 @@
 -- Worked cases of K12, from the fresh dispatcher: the turns of the groups, a panel that changes its group, and a run in which a panel waits for all 2n picks.
-use mathlib.Core.Path.{_≡_, refl}
+use mathlib.Core.Path.{refl}
 use mathlib.Core.Bool.{true, false}
 use mathlib.Core.List.{List, [], _∷_}
 use Prim.Native.Nat.{ℕ}
@@ -9,7 +9,7 @@ use Rattle.integers.specs.Worked.{Worked, case, AllWorked}
 use Rattle.dispatcher.specs.declared.Choice.{Choice}
 use Rattle.dispatcher.specs.declared.Choice.the-variants.{Panel, Nobody}
 use Rattle.dispatcher.specs.Dispatch.{freshOf, nextOf, errorTurn, registerOf, reportOf, pickOf}
-use Rattle.waiting.specs.Steps.{Step, picks, reports, registers, after, ran, choices}
+use Rattle.waiting.specs.Steps.{picks, reports, registers, after, choices}
 
 -- a pick with no panel registered answers none
 abbrev pub nobody : Worked (List Choice)

@@ -63,7 +63,7 @@ way-last a b ha h = by-way b b (λ p q. omega arith) (λ p q. by-way b a (λ r s
 
 -- ---- the next of a group is its nearest member
 
-lowest-atMost : {p : ℕ → Bool} {s n b : ℕ} → Lowest p s n b → (a : ℕ) → s ≤ a → p a ≡ true → b ≤ a
+pub lowest-atMost : {p : ℕ → Bool} {s n b : ℕ} → Lowest p s n b → (a : ℕ) → s ≤ a → p a ≡ true → b ≤ a
 lowest-atMost {p} {s} {n} {b} r a low is = let h : a < b → ⊥ = λ h. clash (r .least a low h) is in omega arith
 
 -- b is a member, and no farther than a

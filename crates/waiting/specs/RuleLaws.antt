@@ -2,31 +2,30 @@
 use mathlib.Core.Path.{_≡_, refl, sym, _∙_, ap}
 use mathlib.Core.Bool.{Bool, true, false, not, cond, _&&_, _||_}
 use mathlib.Core.List.{List, [], _∷_}
-use Prim.Native.Nat.{ℕ, zero, suc, _/_, _%_, _≤_, _<_}
+use Prim.Native.Nat.{ℕ, zero, suc, _-_, _/_, _%_, _≤_, _<_}
 use native.Mathlib.Omega.{arith}
 use lib.ListN.{getD, replicate}
 use lib.Dec.{T, leb, eqb, eqb→eq, leb→le, nleb→lt}
-use borrow.Author.Tests.{not-true, eqb-false, eq-eqb, lt-leb, leb-false, ltb-false, le-ltb}
-use Rattle.integers.specs.ChoiceLaws.{by-test, either, is-true, is-false, true-is, false-is}
+use borrow.Author.Tests.{not-true, eqb-false, eq-eqb, leb-false}
+use Rattle.integers.specs.ChoiceLaws.{by-test, either, is-true, is-false, true-is}
 use Rattle.integers.specs.TestLaws.{and-both, or-both}
 use Rattle.bits.specs.Bits.{bitAt}
 use Rattle.bits.specs.BitLaws.{bit-none}
 use Rattle.addresses.specs.Addresses.{holds}
-use Rattle.addresses.specs.Search.{lowestAbove, countAll}
+use Rattle.addresses.specs.Search.{lowestAbove}
 use Rattle.addresses.specs.SearchLaws.{lowest-none, lowest-is, count-same, count-more, count-none, count-zero}
 use Rattle.dispatcher.specs.declared.Group.{Group}
 use Rattle.dispatcher.specs.declared.Dispatcher.{Dispatcher}
 use Rattle.dispatcher.specs.declared.Answer.{Answer}
 use Rattle.dispatcher.specs.declared.Turn.{Turn}
-use Rattle.dispatcher.specs.declared.Choice.{Choice}
 use Rattle.dispatcher.specs.declared.Choice.the-variants.{Panel, Nobody}
 use Rattle.dispatcher.specs.Dispatch.{outside, present, registered, inError, member, some, panels, nextOf, afterError, errorTurn, polls, withPanel, withReport, freshOf, registerOf, reportOf, pickOf}
-use Rattle.dispatcher.specs.TurnLaws.{some-member, pick-nobody}
+use Rattle.dispatcher.specs.TurnLaws.{some-member, next-higher, next-lowest, pick-nobody}
 use Rattle.dispatcher.specs.CallLaws.{inside, in-range}
 use Rattle.waiting.specs.Steps.{Step, picks, reports, registers, after, ran, noPick}
-use Rattle.waiting.specs.Rules.{NeverTwo, NoneExactly, NoneOnlySo, ChosenRegistered, RegisterNumbers, ReportNumbers, Numbers, AtMost32, InErrorUntil, UntilReported, NobodyLeaves}
-use Rattle.waiting.specs.StepLaws.{whole-fresh, registered-is, Still, report-still, register-ways, register-still, pick-same, pick-present, pick-error, Whole, whole-after, whole-ran, entered-same, entered-other, report-error, report-ordinary, report-error-other, report-ordinary-other, report-present, report-own, report-others}
-use Rattle.waiting.specs.OrderLaws.{clash, Nearest, next-nearest}
+use Rattle.waiting.specs.Rules.{NeverTwo, Turns, NoneOnlySo, ChosenRegistered, RegisterNumbers, ReportNumbers, Numbers, AtMost32, UntilReported, NobodyLeaves}
+use Rattle.waiting.specs.StepLaws.{whole-fresh, registered-is, report-still, register-ways, register-still, pick-same, pick-present, pick-error, Whole, whole-after, whole-ran, entered-same, entered-other, report-error, report-ordinary, report-error-other, report-ordinary-other, report-present, report-own, report-others}
+use Rattle.waiting.specs.OrderLaws.{clash, lowest-atMost, next-nearest}
 
 or-true : (b : Bool) → b || true ≡ true
 or-true true = refl
@@ -82,6 +81,38 @@ none-member g n x low high =
     either (member g x)
     (λ t. absurd (clash n (some-member g x low high (is-true (member g x) t))))
     (λ f. is-false (member g x) f)
+
+-- ---- "Each group takes turns"
+
+module _ (g : Group) where
+  abbrev up : ℕ
+  up = lowestAbove (member g) (g .last)
+
+  turns-higher : (x : ℕ) → x < 256 → T (member g x) → g .last < x → T (member g (nextOf g)) × (g .last < nextOf g) × (nextOf g ≤ x)
+  turns-higher x high t above =
+      let is = is-true (member g x) t in
+      let n : up ≡ 0 → ⊥ = λ e. clash (lowest-none (member g) (suc (g .last)) (255 - g .last) (omega arith) e x (omega arith) (omega arith)) is in
+      let r = lowest-is (member g) (suc (g .last)) (255 - g .last) up refl (omega arith) in
+      let h = lowest-atMost r x (omega arith) is in
+      rw (next-higher g n) (true-is (member g up) (r .passes), omega arith, h)
+
+  turns-lowest : ((x : ℕ) → x < 256 → T (member g x) → x ≤ g .last) →
+      (x : ℕ) → 0 < x → x < 256 → T (member g x) → T (member g (nextOf g)) × (0 < nextOf g) × (nextOf g ≤ x)
+  turns-lowest none x low high t =
+      let first = lowestAbove (member g) 0 in
+      let is = is-true (member g x) t in
+      let e : up ≡ 0 = either (eqb up 0) (λ z. eqb→eq up 0 z)
+      (λ f. let n = eqb-false up 0 (is-false (eqb up 0) f) in
+      let r = lowest-is (member g) (suc (g .last)) (255 - g .last) up refl (omega arith) in
+      let h = none up (omega arith) (true-is (member g up) (r .passes)) in
+      absurd (omega arith)) in
+      let m : first ≡ 0 → ⊥ = λ z. clash (lowest-none (member g) 1 255 (omega arith) z x (omega arith) (omega arith)) is in
+      let r = lowest-is (member g) 1 255 first refl (omega arith) in
+      let h = lowest-atMost r x (omega arith) is in
+      rw (next-lowest g e) (true-is (member g first) (r .passes), omega arith, h)
+
+pub turns : Turns
+turns g = record { higher = turns-higher g; lowest = turns-lowest g }
 
 -- ---- "A pick with no panel registered answers none"
 

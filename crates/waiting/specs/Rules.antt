@@ -1,13 +1,14 @@
 -- Paper 02, K12, the sentences beside the promise, stated of every run or of every dispatcher. This file is definitions only; RuleLaws proves them.
 use mathlib.Core.Path.{_≡_}
-use mathlib.Core.Bool.{Bool, true, false, not}
+use mathlib.Core.Bool.{Bool, false, not}
 use mathlib.Core.List.{List}
 use Prim.Native.Nat.{ℕ, _≤_, _<_}
 use lib.Dec.{T}
+use Rattle.dispatcher.specs.declared.Group.{Group}
 use Rattle.dispatcher.specs.declared.Dispatcher.{Dispatcher}
 use Rattle.dispatcher.specs.declared.Answer.{Answer}
 use Rattle.dispatcher.specs.declared.Choice.the-variants.{Panel, Nobody}
-use Rattle.dispatcher.specs.Dispatch.{freshOf, outside, present, registered, inError, panels, registerOf, reportOf, pickOf}
+use Rattle.dispatcher.specs.Dispatch.{freshOf, outside, present, registered, inError, member, panels, nextOf, registerOf, reportOf, pickOf}
 use Rattle.waiting.specs.Steps.{Step, picks, reports, registers, after, ran, noPick}
 
 -- "never two such polls in a row while an ordinary panel is registered": where a pick and the next one both choose a panel that is in error then, whoever is
@@ -19,6 +20,16 @@ NeverTwo =
     let e = ran (after d picks) between in
     pickOf d .choice ≡ Panel a → T (inError d a) → pickOf e .choice ≡ Panel b → T (inError e b) →
     (x : ℕ) → T (registered e x) → T (inError e x)
+
+-- "Each group takes turns: the next is the member with the next higher address after the one this group polled last, and at first or after the highest the
+-- lowest". Addresses of a set are below 256, and 0 is nobody's
+pub record TakesTurns (g : Group) : Type 0 where
+  pub higher : (x : ℕ) → x < 256 → T (member g x) → g .last < x → T (member g (nextOf g)) × (g .last < nextOf g) × (nextOf g ≤ x)
+  pub lowest : ((x : ℕ) → x < 256 → T (member g x) → x ≤ g .last) →
+      (x : ℕ) → 0 < x → x < 256 → T (member g x) → T (member g (nextOf g)) × (0 < nextOf g) × (nextOf g ≤ x)
+
+abbrev pub Turns : Type 0
+Turns = (g : Group) → TakesTurns g
 
 -- "A pick with no panel registered answers none", and no other
 pub record NoneExactly (d : Dispatcher) : Type 0 where

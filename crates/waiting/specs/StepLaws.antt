@@ -1,14 +1,14 @@
 -- What a step changes: of what the groups polled last, of their sets, and of who is registered and in error.
 use mathlib.Core.Path.{_≡_, refl, sym, _∙_, ap}
-use mathlib.Core.Bool.{Bool, true, false, not, cond, _&&_, _||_}
+use mathlib.Core.Bool.{Bool, true, false, not, cond, _||_}
 use mathlib.Core.List.{List, [], _∷_}
 use Prim.Native.Nat.{ℕ, _≤_, _<_}
 use native.Mathlib.Omega.{arith}
-use lib.Dec.{T, ltb, leb, eqb, eqb→eq}
-use lib.ListN.{length, getD, set, length-set}
-use borrow.Author.Tests.{ltb-false, eqb-false, eq-eqb, ne-eqb, not-true}
-use Rattle.integers.specs.ChoiceLaws.{by-test, either, is-true, is-false, true-is}
-use Rattle.integers.specs.TestLaws.{and-both, or-both}
+use lib.Dec.{T, leb, eqb, eqb→eq}
+use lib.ListN.{length, length-set}
+use borrow.Author.Tests.{eqb-false, not-true}
+use Rattle.integers.specs.ChoiceLaws.{by-test, either, is-true, is-false}
+use Rattle.integers.specs.TestLaws.{and-both}
 use Rattle.addresses.specs.Addresses.{holds, including, excluding}
 use Rattle.addresses.specs.AddressLaws.{including-same, including-other, excluding-same, excluding-other}
 use Rattle.dispatcher.specs.declared.Group.{Group}

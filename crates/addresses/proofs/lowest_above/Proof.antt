@@ -1,9 +1,9 @@
 -- `addresses::lowest_above` meets its contract. The invariant: the lowest from `at` on is the lowest above where the search began.
-use mathlib.Core.Path.{_≡_, refl, sym, _∙_, ap, subst}
-use Prim.Native.Nat.{ℕ, _+_, _-_, _/_, _%_, _^_, _≤_, _<_}
+use mathlib.Core.Path.{_≡_, sym, _∙_}
+use Prim.Native.Nat.{_+_, _-_, _/_, _%_, _^_, _≤_, _<_}
 use native.Mathlib.Numerals.{add-one}
 use native.Mathlib.Omega.{arith}
-use lib.Count.{trailingZeros, trailing-le}
+use lib.Count.{trailingZeros}
 use Rattle.addresses.specs.Addresses.{holds}
 use Rattle.addresses.specs.Search.{lowestFrom, lowestAbove}
 use Rattle.addresses.specs.AddressLaws.{rest-none, rest-some}
