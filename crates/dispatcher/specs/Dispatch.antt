@@ -12,6 +12,28 @@ use Rattle.dispatcher.specs.declared.Answer.{Answer}
 use Rattle.dispatcher.specs.declared.Turn.{Turn}
 use Rattle.dispatcher.specs.declared.Choice.the-variants.{Panel, Nobody}
 
+-- ---- the numbers
+
+-- "up to 32 panels", "1 to 247"
+abbrev pub mostPanels : ℕ
+mostPanels = 32
+
+abbrev pub lowestAddress : ℕ
+lowestAddress = 1
+
+abbrev pub highestAddress : ℕ
+highestAddress = 247
+
+-- the refusals: no such address or no panel there, an address already present, a panel too many
+abbrev pub noPanel : ℕ
+noPanel = 32
+
+abbrev pub alreadyPresent : ℕ
+alreadyPresent = 29
+
+abbrev pub tooMany : ℕ
+tooMany = 28
+
 -- ---- the groups and their panels
 
 -- the panels in error (true), or the ordinary ones (false)
@@ -36,7 +58,7 @@ present d a = member (d .error) a || member (d .ordinary) a
 
 -- "outside 1 to 247"
 abbrev pub outside : ℕ → Bool
-outside a = ltb a 1 || ltb 247 a
+outside a = ltb a lowestAddress || ltb highestAddress a
 
 abbrev pub registered : Dispatcher → ℕ → Bool
 registered d a = not (outside a) && present d a
@@ -98,14 +120,14 @@ answer d n = record { dispatcher = d; refusal = n }
 -- "32 an address to register outside 1 to 247; 29 an address already present, tested after 32; 28 a 33rd panel, tested last"
 unfoldable pub registerOf : Dispatcher → ℕ → Answer
 registerOf d a =
-    cond (outside a) (answer d 32)
-    (cond (present d a) (answer d 29)
-    (cond (leb 32 (panels d)) (answer d 28)
+    cond (outside a) (answer d noPanel)
+    (cond (present d a) (answer d alreadyPresent)
+    (cond (leb mostPanels (panels d)) (answer d tooMany)
     (answer (withPanel d a) 0)))
 
 -- "32 .. a report from one not registered"
 unfoldable pub reportOf : Dispatcher → ℕ → Bool → Answer
-reportOf d a e = cond (registered d a) (answer (withReport d a e) 0) (answer d 32)
+reportOf d a e = cond (registered d a) (answer (withReport d a e) 0) (answer d noPanel)
 
 abbrev pub polledOf : Dispatcher → Bool → ℕ → Turn
 polledOf d g a = record { dispatcher = keptOf d g a; choice = Panel a }
