@@ -14,6 +14,7 @@ use lib.ListN.{length, getD, set}
 use lib.Pow.{shl-exact, shr-lt}
 use lib.Seq.{getD-set-same, getD-set-other}
 use Rattle.integers.specs.ChoiceLaws.{either, is-false}
+use Rattle.integers.specs.TestLaws.{clash}
 use Rattle.bits.specs.Bits.{bitAt}
 use Rattle.bits.specs.BitLaws.{two, bit-lt, bit-none, bit-and, bit-or, bit-xor, bit-shr, bit-power, bit-power-other, LowestBit, lowest-bit}
 use Rattle.addresses.specs.Addresses.{wordAt, holds, isEmpty, including, excluding}
@@ -186,5 +187,4 @@ empty-lowest ws e k =
     either (eqb b 0) (λ t. eqb→eq b 0 t)
     (λ f. let n = eqb-false b 0 (is-false (eqb b 0) f) in
     let r = lowest-is (holds ws) (suc k) (255 - k) b refl (omega arith) in
-    let z : _≡_ {A = ℕ} 0 1 = cc (empty-holds ws e b (omega arith), r .passes) in
-    absurd (omega arith))
+    absurd (clash (empty-holds ws e b (omega arith)) (r .passes)))

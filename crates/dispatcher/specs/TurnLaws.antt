@@ -6,6 +6,7 @@ use native.Mathlib.Omega.{arith}
 use lib.Dec.{eqb, eqb→eq}
 use borrow.Author.Tests.{eqb-false, eq-eqb, ne-eqb}
 use Rattle.integers.specs.ChoiceLaws.{either, is-false}
+use Rattle.integers.specs.TestLaws.{and-false, clash}
 use Rattle.addresses.specs.Addresses.{isEmpty}
 use Rattle.addresses.specs.AddressLaws.{empty-lowest}
 use Rattle.addresses.specs.Search.{lowestAbove}
@@ -29,7 +30,7 @@ module _ (g : Group) where
   some-member a low high is =
       either (eqb lowest 0)
       (λ t. let none = lowest-none (member g) 1 255 (omega arith) (eqb→eq lowest 0 t) a (omega arith) (omega arith) in
-      let z : _≡_ {A = ℕ} 0 1 = cc in absurd (omega arith))
+      absurd (clash none is))
       (λ f. ap not (is-false (eqb lowest 0) f))
 
   -- what the next is: by the test of the definition
@@ -60,10 +61,6 @@ pub next-empty : (g : Group) → isEmpty (g .members) ≡ true → 0 ≡ nextOf 
 next-empty g e = sym (next-lowest g (empty-lowest (g .members) e (g .last)) ∙ empty-lowest (g .members) e 0)
 
 -- ---- which group a pick polls
-
-and-false : (b : Bool) → b && false ≡ false
-and-false true = refl
-and-false false = refl
 
 module _ (d : Dispatcher) where
   pub pick-nobody : some (d .error) ≡ false → some (d .ordinary) ≡ false → pickOf d ≡ record { dispatcher = d; choice = Nobody }

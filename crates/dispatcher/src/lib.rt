@@ -180,13 +180,11 @@ fn count(d: Dispatcher) -> usize
 fn with_panel(d: Dispatcher, a: u8) -> Dispatcher
     ensures { λ r. ⌜ r ≡ withPanel d a ⌝ }
 {
-    let error = d.error;
-    let o = d.ordinary;
-    Dispatcher {
-        error,
-        ordinary: enter(o, a),
-        faulty: d.faulty,
-    }
+    let old = d.ordinary;
+    let joined = enter(old, a);
+    let mut n = d;
+    n.ordinary = joined;
+    n
 }
 
 // A panel in the group that it reports.

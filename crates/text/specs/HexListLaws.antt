@@ -7,6 +7,7 @@ use native.Mathlib.Omega.{arith}
 use lib.Dec.{leb}
 use lib.ListN.{length}
 use borrow.Author.Tests.{le-leb, lt-leb}
+use Rattle.integers.specs.TestLaws.{and-false}
 use Rattle.text.specs.Words.{wordsOf}
 use Rattle.text.specs.Hex.{isHex}
 use Rattle.text.specs.HexList.{allHexWords, areHex, hexesOf}
@@ -17,10 +18,6 @@ pub hexes-length : (ws : List (List ℕ)) → length (hexesOf ws) ≡ length ws
 unfolding hexesOf
 hexes-length [] = refl
 hexes-length (w ∷ ws) = ap suc (hexes-length ws)
-
-and-false : (a : Bool) → a && false ≡ false
-and-false true = refl
-and-false false = refl
 
 module _ (count least most : ℕ) where
   unfoldable pub hexFrom : ℕ → List (List ℕ) → Bool

@@ -1,20 +1,18 @@
 -- The order in which a group meets the addresses: those above the one that it polled last, then from the lowest on. The group's next panel is its nearest
 -- member in that order; and in the order behind a panel, all that was before another panel still is, but for the one that was polled.
 use mathlib.Core.Path.{_≡_, refl, sym, subst}
-use mathlib.Core.Bool.{Bool, true, false, cond}
+use mathlib.Core.Bool.{Bool, true, cond}
 use Prim.Native.Nat.{ℕ, suc, _+_, _-_, _≤_, _<_}
 use native.Mathlib.Omega.{arith}
 use lib.Dec.{ltb, eqb, eqb→eq}
 use borrow.Author.Tests.{ltb-true, ltb-false, eqb-false}
 use Rattle.integers.specs.ChoiceLaws.{either, is-true, is-false}
+use Rattle.integers.specs.TestLaws.{clash}
 use Rattle.addresses.specs.Search.{lowestAbove}
 use Rattle.addresses.specs.SearchLaws.{lowest-none, Lowest, lowest-is}
 use Rattle.dispatcher.specs.declared.Group.{Group}
 use Rattle.dispatcher.specs.Dispatch.{member, nextOf}
 use Rattle.dispatcher.specs.TurnLaws.{next-higher, next-lowest}
-
-pub clash : {b : Bool} → b ≡ false → b ≡ true → ⊥
-clash p q = let z : _≡_ {A = ℕ} 0 1 = cc in omega arith
 
 -- ---- the order, as a number: how far x is behind k
 

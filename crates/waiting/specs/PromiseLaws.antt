@@ -12,7 +12,7 @@ use lib.Dec.{T, ltb, eqb, eqb→eq}
 use lib.ListN.{length}
 use borrow.Author.Tests.{ltb-true, lt-ltb, le-ltb, eqb-false, eq-eqb}
 use Rattle.integers.specs.ChoiceLaws.{by-test, either, is-true, is-false, true-is}
-use Rattle.integers.specs.TestLaws.{and-both}
+use Rattle.integers.specs.TestLaws.{and-both, and-false}
 use Rattle.addresses.specs.Search.{countAll}
 use Rattle.addresses.specs.SearchLaws.{count-less, count-same}
 use Rattle.dispatcher.specs.declared.Dispatcher.{Dispatcher}
@@ -25,10 +25,6 @@ use Rattle.waiting.specs.Steps.{Step, picks, reports, registers, after, 
 use Rattle.waiting.specs.Promise.{Steady, PolledWithin, Promise, quiet, QuietPromise}
 use Rattle.waiting.specs.StepLaws.{registered-is, Still, report-still, register-still, Whole, whole-ran, whole-after, pick-present, pick-error, report-present, report-keeps}
 use Rattle.waiting.specs.OrderLaws.{way, way-same, way-on, way-last, next-nearest}
-
-and-false : (b : Bool) → b && false ≡ false
-and-false true = refl
-and-false false = refl
 
 -- ---- a panel is in its own group, and what that says of a pick
 

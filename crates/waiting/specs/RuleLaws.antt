@@ -8,7 +8,7 @@ use lib.ListN.{getD, replicate}
 use lib.Dec.{T, leb, eqb, eqb→eq, leb→le, nleb→lt}
 use borrow.Author.Tests.{not-true, eqb-false, eq-eqb, leb-false}
 use Rattle.integers.specs.ChoiceLaws.{by-test, either, is-true, is-false, true-is}
-use Rattle.integers.specs.TestLaws.{and-both, or-both}
+use Rattle.integers.specs.TestLaws.{and-both, or-both, or-true, clash}
 use Rattle.bits.specs.Bits.{bitAt}
 use Rattle.bits.specs.BitLaws.{bit-none}
 use Rattle.addresses.specs.Addresses.{holds}
@@ -25,11 +25,7 @@ use Rattle.dispatcher.specs.CallLaws.{inside, in-range}
 use Rattle.waiting.specs.Steps.{Step, picks, reports, registers, after, ran, noPick}
 use Rattle.waiting.specs.Rules.{NeverTwo, Turns, NoneOnlySo, ChosenRegistered, RegisterNumbers, ReportNumbers, Numbers, AtMost32, UntilReported, NobodyLeaves}
 use Rattle.waiting.specs.StepLaws.{whole-fresh, registered-is, report-still, register-ways, register-still, pick-same, pick-present, pick-error, Whole, whole-after, whole-ran, entered-same, entered-other, report-error, report-ordinary, report-error-other, report-ordinary-other, report-present, report-own, report-others}
-use Rattle.waiting.specs.OrderLaws.{clash, lowest-atMost, next-nearest}
-
-or-true : (b : Bool) → b || true ≡ true
-or-true true = refl
-or-true false = refl
+use Rattle.waiting.specs.OrderLaws.{lowest-atMost, next-nearest}
 
 -- ---- the numbers, each in its own condition and in no other; a refusal changes nothing
 
