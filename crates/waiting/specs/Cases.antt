@@ -1,5 +1,5 @@
 -- Worked cases of K12, from the fresh dispatcher: the turns of the groups, a panel that changes its group, and a run in which a panel waits for all 2n picks.
-use mathlib.Core.Path.{refl}
+use mathlib.Core.Path.{_≡_, refl}
 use mathlib.Core.Bool.{true, false}
 use mathlib.Core.List.{List, [], _∷_}
 use Prim.Native.Nat.{ℕ}
@@ -10,6 +10,7 @@ use Rattle.dispatcher.specs.declared.Choice.{Choice}
 use Rattle.dispatcher.specs.declared.Choice.the-variants.{Panel, Nobody}
 use Rattle.dispatcher.specs.Dispatch.{freshOf, nextOf, errorTurn, registerOf, reportOf, pickOf}
 use Rattle.waiting.specs.Steps.{picks, reports, registers, after, choices}
+use Rattle.waiting.specs.Promise.{quiet}
 
 -- a pick with no panel registered answers none
 abbrev pub nobody : Worked (List Choice)
@@ -35,6 +36,11 @@ tight =
     case
     (choices freshOf (registers 1 ∷ registers 2 ∷ picks ∷ reports 2 true ∷ picks ∷ reports 2 false ∷ picks ∷ reports 2 true ∷ picks ∷ picks ∷ []))
     (Panel 1 ∷ Panel 2 ∷ Panel 2 ∷ Panel 2 ∷ Panel 1 ∷ [])
+
+-- the premise of the quiet promise is met by the list behind the first of these picks: panel 1 stays ordinary, and nobody asks to join
+pub met : quiet 1 false (reports 2 true ∷ picks ∷ reports 2 false ∷ picks ∷ reports 2 true ∷ picks ∷ picks ∷ []) ≡ true
+unfolding quiet
+met = refl
 
 pub checked : AllWorked (nobody ∷ turns ∷ changed ∷ tight ∷ [])
 unfolding choices after registerOf reportOf pickOf errorTurn nextOf lowestFrom countFrom holds including excluding
