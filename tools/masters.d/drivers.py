@@ -1,14 +1,9 @@
 """The masters, each with the same commands: r, w, q, i, s, p and n (see libmodbus_master.c)."""
 
-import os
 import re
 import select
 import subprocess
-import sys
 
-from tally import LIBMODBUS
-
-HERE = os.path.dirname(os.path.abspath(__file__))
 # Longer than any command takes.
 PATIENCE = 30
 
@@ -72,15 +67,3 @@ class Mbpoll:
 
     def close(self):
         pass
-
-
-def mbpoll(path):
-    return Mbpoll(path)
-
-
-def libmodbus(path):
-    return Talker("libmodbus", [LIBMODBUS, path])
-
-
-def pymodbus(path):
-    return Talker("pymodbus", [sys.executable, os.path.join(HERE, "pymodbus_master.py"), path])

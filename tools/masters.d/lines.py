@@ -11,8 +11,6 @@ import time
 import tty
 
 TENTH = 0.1
-# A slave hears nothing before its first silence; a master that tries again comes about so late.
-FIRST_SILENCE = 0.33
 
 
 def started(*arguments, **options):
@@ -47,11 +45,6 @@ def raw_terminal(vmin, vtime):
     return master, slave
 
 
-def lines_of(path):
-    with open(path, errors="replace") as file:
-        return file.read().splitlines()
-
-
 class SocatLine:
     """A slave behind socat, as the manual page has it."""
 
@@ -67,7 +60,6 @@ class SocatLine:
         # Held open, so that the line outlives each master.
         self.held = os.open(self.path, os.O_RDWR | os.O_NOCTTY)
         until(self.children, 0.5)
-        pause(FIRST_SILENCE)
 
     def children(self):
         pid = self.process.pid
@@ -78,7 +70,8 @@ class SocatLine:
             return []
 
     def said(self):
-        return [line for line in lines_of(self.errors) if " socat[" not in line]
+        with open(self.errors, errors="replace") as file:
+            return [line for line in file.read().splitlines() if " socat[" not in line]
 
     def close(self):
         """Ends the line; whether the slave ended with it."""
@@ -107,22 +100,16 @@ class Bus:
     def __init__(self, folder, commands):
         self.master, self.end = raw_terminal(1, 0)
         self.path = os.ttyname(self.end)
-        self.ports, self.processes, self.ends, self.errors = [], [], [], []
+        self.ports, self.processes, self.ends = [], [], []
         for i, command in enumerate(commands):
             port, end = raw_terminal(0, 1)
-            self.errors.append(os.path.join(folder, f"bus.{i}.errors"))
-            errors = open(self.errors[-1], "wb")
+            errors = open(os.path.join(folder, f"bus.{i}.errors"), "wb")
             self.processes.append(started(command.split(), stdin=end, stdout=end, stderr=errors))
             self.ports.append(port)
             self.ends.append(end)
         self.running = True
         self.thread = threading.Thread(target=self.copy, daemon=True)
         self.thread.start()
-        pause(FIRST_SILENCE)
-
-    def said(self):
-        """What each slave said."""
-        return [lines_of(path) for path in self.errors]
 
     def copy(self):
         everyone = [self.master] + self.ports
@@ -147,36 +134,26 @@ class Bus:
         return all(ended)
 
 
-class Pair:
-    """Two terminals with a line between them; the far one is set by options, or left as it is made."""
-
-    def __init__(self, folder, near, far, options=""):
-        self.near, self.far = os.path.join(folder, near), os.path.join(folder, far)
-        self.process = started(["socat", f"pty,raw,echo=0,link={self.near}", f"pty{options},link={self.far}"])
-        if not until(lambda: os.path.exists(self.near) and os.path.exists(self.far)):
-            raise RuntimeError(f"socat made no {self.near} and {self.far}")
-
-    def close(self):
-        self.process.terminate()
-        self.process.wait()
-
-
 class Feed:
     """A terminal to type events at, and the one that the slave reads."""
 
     def __init__(self, folder):
-        self.pair = Pair(folder, "typed", "events.terminal", ",raw,echo=0,vmin=0,vtime=0")
-        self.path = self.pair.far
-        self.file = os.open(self.pair.near, os.O_RDWR | os.O_NOCTTY)
+        self.typed, self.path = os.path.join(folder, "typed"), os.path.join(folder, "events.terminal")
+        self.process = started(
+            ["socat", f"pty,raw,echo=0,link={self.typed}", f"pty,raw,echo=0,vmin=0,vtime=0,link={self.path}"]
+        )
+        until(lambda: os.path.exists(self.typed) and os.path.exists(self.path))
+        self.file = os.open(self.typed, os.O_RDWR | os.O_NOCTTY)
         self.held = os.open(self.path, os.O_RDWR | os.O_NOCTTY)
 
-    def type(self, line, end="\n"):
-        os.write(self.file, (line + end).encode())
+    def type(self, line):
+        os.write(self.file, line.encode() + b"\n")
 
     def close(self):
         os.close(self.file)
         os.close(self.held)
-        self.pair.close()
+        self.process.terminate()
+        self.process.wait()
 
 
 class Wire:
@@ -202,37 +179,3 @@ class Wire:
 
     def close(self):
         os.close(self.file)
-
-
-class Port(Wire):
-    """The line of one slave, held by this process: what is sent is there at once."""
-
-    def __init__(self, folder, command, vmin=0, vtime=1, waiting=b"", settled=FIRST_SILENCE):
-        self.file, self.end = raw_terminal(vmin, vtime)
-        self.errors, self.command = os.path.join(folder, "port.errors"), command
-        open(self.errors, "wb").close()
-        self.start(waiting, settled)
-
-    def start(self, waiting=b"", settled=FIRST_SILENCE):
-        """Starts the slave, with bytes that it finds on its line."""
-        self.send(waiting)
-        with open(self.errors, "ab") as errors:
-            self.process = started(self.command.split(), stdin=self.end, stdout=self.end, stderr=errors)
-        pause(settled)
-
-    def stop(self):
-        """Ends the slave; the line stays."""
-        self.process.terminate()
-        self.process.wait()
-
-    def said(self):
-        return lines_of(self.errors)
-
-    def close(self):
-        """Ends the line; whether the slave ended with it."""
-        os.close(self.file)
-        os.close(self.end)
-        ended = until(lambda: self.process.poll() is not None)
-        if not ended:
-            self.stop()
-        return ended

@@ -1,110 +1,72 @@
--- The bytes of a shared line as frames, byte by byte. Request K2; the public documents' silence between frames.
+-- The bytes of a line as frames: they come one by one and in pieces of any size. Request K2; the public documents' silence between frames.
 --
--- A FRAME MAY BEGIN at the first byte behind silence, at the first behind a pause, and behind every whole frame that begins where one may begin. Every such
--- place is followed, also where a shorter frame has already ended at it: a reply whose first bytes are a frame by chance is followed to both ends.
--- A REQUEST TO THIS NODE OR TO ALL is heard at its last byte if it begins where a frame may begin (of two that end at one byte, the shorter).
--- LOST: where no frame that may have begun can go on and none has ended, each byte since the last end may begin one, until one ends.
--- A PAUSE drops nothing: it only adds a place, so a gap inside a frame does no harm.
--- AT SILENCE a whole frame to this node of a function that it does not know is heard, and all is dropped. Before the first silence nothing is heard.
---
--- Main properties: Hearing.
-use Rattle.std.specs.Prelude.{Bool, true, false, cond, not, ◌&&◌, ◌||◌, List, [], ◌∷◌, ◌++◌, ℕ, ◌+◌, ◌-◌, eqb, ltb, leb, length, drop, replicate}
+-- Bytes are held until they end a frame. Whatever ends none goes on until silence, and is the frame then: so a broken frame takes all with it up to there,
+-- and so does one of more than 256 bytes, of which 257 are held.
+-- Main property: how the bytes are cut into pieces does not matter (PieceLaws, `fed-pieces` and `heard-pieces`).
+use Rattle.std.specs.Prelude.{true, false, cond, List, [], ◌∷◌, ℕ, ◌+◌, eqb, ltb, leb, length, take, set, replicate}
 use Rattle.modbus.specs.Request.{most_bytes}
-use Rattle.framing.specs.Ends.{ends, goes_on, is_heard, is_left_over}
+use Rattle.framing.specs.Ends.{is_foreign, stops}
 use Rattle.framing.specs.declared.Collector.{Collector}
-use Rattle.framing.specs.declared.Seen.{Seen}
+use Rattle.framing.specs.declared.Fed.{Fed}
 
--- ---- the last 256 bytes; each is a place where a frame may have begun, if its mark is 1, or if no more than `reach` bytes stand from there on
-abbrev pub entered : List ℕ → ℕ → List ℕ
-entered l b = drop 1 l ++ (b ∷ [])
+-- one more than a frame can have
+abbrev pub most_held : ℕ
+most_held = most_bytes + 1
 
-unfoldable pub may_begin : ℕ → ℕ → List ℕ → Bool
-may_begin mark reach f = cond (eqb mark 1) true (leb (length f) reach)
+-- the bytes held
+abbrev pub held : Collector → List ℕ
+held c = take c.length c.bytes
 
--- what one such place adds: a request that has ended, whether a frame has ended, and whether one goes on
-unfoldable pub noted : ℕ → Seen → List ℕ → Seen
-noted node s f = record { own = cond (is_heard node f) (length f) s.own; found = s.found || ends node f; live = s.live || goes_on node f }
+-- how many they are
+unfoldable pub held_length : Collector → ℕ
+held_length c = cond (leb c.length most_held) c.length most_held
 
-unfoldable pub marked : ℕ → ℕ → Seen → ℕ → List ℕ → Seen
-marked node reach s mark f = cond (may_begin mark reach f) (noted node s f) s
+-- nothing held
+abbrev pub emptied : Collector → Collector
+emptied c = record { bytes = c.bytes; length = 0; ended = false }
 
--- all places, the oldest first
-unfoldable pub seen_in : ℕ → ℕ → Seen → List ℕ → List ℕ → Seen
-seen_in node reach s [] m = s
-seen_in node reach s (b ∷ f) [] = s
-seen_in node reach s (b ∷ f) (mark ∷ m) = seen_in node reach (marked node reach s mark (b ∷ f)) f m
+-- the bytes held are a frame, until the next byte
+abbrev pub closed : Collector → Collector
+closed c = record { bytes = c.bytes; length = c.length; ended = true }
 
-abbrev pub nothing_seen : Seen
-nothing_seen = record { own = 0; found = false; live = false }
-
--- ---- one byte
--- the bytes since the last end, no more than are kept
-unfoldable pub one_more : ℕ → ℕ
-one_more held = cond (ltb held most_bytes) (held + 1) most_bytes
-
-abbrev pub reach_of : Bool → ℕ → ℕ
-reach_of lost held = cond lost held 0
-
-unfoldable pub lost_by : Collector → Seen → Bool
-lost_by c s = cond c.listening (cond s.found false (cond c.lost true (not s.live))) false
-
-abbrev pub after : Collector → ℕ → Seen → Collector
-after c b s =
-    record {
-      bytes = entered c.bytes b;
-      marks = entered c.marks c.next;
-      next = cond s.found 1 0;
-      held = cond s.found 0 (one_more c.held);
-      lost = lost_by c s;
-      listening = c.listening;
-      frame = s.own;
-    }
-
-abbrev pub seen_by : ℕ → Collector → ℕ → Seen
-seen_by node c b = seen_in node (reach_of c.lost (one_more c.held)) nothing_seen (entered c.bytes b) (entered c.marks c.next)
-
-unfoldable pub pushed : ℕ → Collector → ℕ → Collector
-pushed node c b = after c b (seen_by node c b)
-
--- ---- silence
-unfoldable pub left_in : ℕ → ℕ → ℕ → List ℕ → List ℕ → ℕ
-left_in node reach k [] m = k
-left_in node reach k (b ∷ f) [] = k
-left_in node reach k (b ∷ f) (mark ∷ m) = left_in node reach (cond (may_begin mark reach (b ∷ f) && is_left_over node (b ∷ f)) (length (b ∷ f)) k) f m
-
--- a collector at silence, with a frame of k bytes
-abbrev pub quiet : List ℕ → ℕ → Collector
-quiet bytes k = record { bytes = bytes; marks = replicate most_bytes 0; next = 1; held = 0; lost = false; listening = true; frame = k }
-
-unfoldable pub quieted : ℕ → Collector → Collector
-quieted node c = quiet c.bytes (left_in node (reach_of c.lost c.held) 0 c.bytes c.marks)
-
--- ---- a pause: a frame may begin behind it too, once there was silence
-unfoldable pub paused : Collector → Collector
-paused c =
-    record { bytes = c.bytes; marks = c.marks; next = cond c.listening 1 c.next; held = c.held; lost = c.lost; listening = c.listening; frame = 0 }
-
--- a line on which nothing was heard yet, not even silence
+-- a line on which nothing was sent
 abbrev pub fresh_collector : Collector
-fresh_collector = record { bytes = replicate most_bytes 0; marks = replicate most_bytes 0; next = 0; held = 0; lost = false; listening = false; frame = 0 }
+fresh_collector = record { bytes = replicate most_held 0; length = 0; ended = false }
+
+-- where the bytes held stop: those of another node are passed over, the others are a frame
+unfoldable pub judged : ℕ → Collector → Collector
+judged node c = cond (stops node (held c)) (cond (is_foreign node (held c)) (emptied c) (closed c)) c
+
+-- n bytes held and one more
+abbrev pub added : Collector → ℕ → ℕ → Collector
+added c n b = record { bytes = set c.bytes n b; length = n + 1; ended = false }
+
+-- the bytes that a new one follows: none behind a frame that has ended
+abbrev pub kept : Collector → ℕ
+kept c = cond c.ended 0 c.length
+
+-- one byte; behind 257 it is dropped
+unfoldable pub pushed : ℕ → Collector → ℕ → Collector
+pushed node c b = cond (ltb (kept c) most_held) (judged node (added c (kept c) b)) c
+
+-- silence: what is held is a frame
+unfoldable pub quieted : Collector → Collector
+quieted c = cond (eqb (kept c) 0) (emptied c) (closed c)
 
 -- ---- bytes in order
 unfoldable pub fed : ℕ → Collector → List ℕ → Collector
 fed node c [] = c
 fed node c (b ∷ l) = fed node (pushed node c b) l
 
--- where the frame that has ended begins
-unfoldable pub frame_start : Collector → ℕ
-frame_start c = cond (leb c.frame most_bytes) (most_bytes - c.frame) 0
-
--- the frame that has ended: the last bytes
-abbrev pub frame_in : Collector → List ℕ
-frame_in c = drop (frame_start c) c.bytes
-
 -- the frames that end on the way
 abbrev pub heard_at : Collector → List (List ℕ) → List (List ℕ)
-heard_at c l = cond (eqb c.frame 0) l (frame_in c ∷ l)
+heard_at c l = cond c.ended (held c ∷ l) l
 
 unfoldable pub heard : ℕ → Collector → List ℕ → List (List ℕ)
 heard node c [] = []
 heard node c (b ∷ l) = heard_at (pushed node c b) (heard node (pushed node c b) l)
+
+-- the bytes up to the end of a frame, from place i on: the collector, and the place behind them
+unfoldable pub fed_to : ℕ → Collector → List ℕ → ℕ → Fed
+fed_to node c [] i = record { collector = c; next = i }
+fed_to node c (b ∷ l) i = cond (pushed node c b).ended (record { collector = pushed node c b; next = i + 1 }) (fed_to node (pushed node c b) l (i + 1))

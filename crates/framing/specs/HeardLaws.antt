@@ -1,119 +1,75 @@
--- A request to this node or to all is heard at its last byte where a frame may begin at its first: behind silence, behind another request, and
--- RIGHT BEHIND ANY WHOLE FRAMES OF OTHERS, requests and replies of any function of the table and any byte count, with no premise of chance.
-use Rattle.std.specs.Prelude.{◌≡◌, refl, Bool, cond, not, ◌&&◌, List, [], ◌∷◌, ◌++◌, ◌⊎◌, ℕ, suc, ◌+◌, ◌-◌, ◌≤◌, ◌<◌, eqb, get_or, take}
-use Rattle.std.proofs.Common.{sym, ◌∙◌, true≢false, append_assoc, inl, inr, length-append, length-drop}
-use Rattle.std.proofs.Math.Path.{ap}
-use Rattle.std.proofs.Math.Bool.{true, false}
-use native.Mathlib.Omega.{arith}
-use borrow.Author.Tests.{eqb-true, eq-eqb, ne_eqb, le-leb, lt-ltb, not-true}
-use Rattle.std.proofs.Math.Dec.{leb}
-use Rattle.std.proofs.Math.ListN.{length, drop}
-use Rattle.std.proofs.Math.Seq.{drop-drop}
-use Rattle.integers.specs.TestLaws.{and_both}
-use Rattle.modbus.specs.Request.{function_in, read_function, write_function, is_read, is_write, is_unknown}
+-- A whole request to this node or to all is heard once, at its last byte; so is each frame of a master, as what the master meant,
+-- whatever pieces it comes in and whatever ended before it.
+use Rattle.std.specs.Prelude.{◌≡◌, true, false, List, [], ◌∷◌, ◌++◌, map, ℕ, ◌^◌, ◌<◌, ℤ, length, take}
+use Rattle.std.proofs.Math.Path.{refl}
+use Rattle.std.proofs.Common.{ap, ◌∙◌, arith, eq-eqb, get_or-take}
+use Rattle.std.proofs.Math.Bool.{and-false}
+use Rattle.std.specs.Int.Signed.{mag}
+use Rattle.modbus.specs.Crc.{sealed}
+use Rattle.modbus.specs.declared.Demand.{Demand}
+use Rattle.modbus.specs.declared.Request.TheVariants.{Read, Write}
+use Rattle.modbus.specs.Request.{is_unknown, is_mapped, shown_register, replied, silent, asked_of}
+use Rattle.modbus.specs.Replies.{read_frame, write_frame}
+use Rattle.modbus.specs.RoundTripLaws.{read_whole, write-whole, read_asked, write-asked, write-asked-of-all}
 use Rattle.framing.specs.declared.Collector.{Collector}
-use Rattle.framing.specs.Ends.{request_long, is_foreign, fits, ends, is_ours, is_heard}
-use Rattle.framing.specs.Collector.{entered, may_begin, one_more, reach_of, nothing_seen, seen_by, pushed, frame_start, frame_in, fed, heard_at, heard}
-use Rattle.framing.specs.PieceLaws.{fed-pieces, heard-pieces}
-use Rattle.framing.specs.PlaceLaws.{own-here}
-use Rattle.framing.specs.StartLaws.{Open, window-at, begins, window-length, marks-length, fed-on, split, frame-passed}
+use Rattle.framing.specs.Ends.{is_request, is_foreign, stops}
+use Rattle.framing.specs.EndLaws.{request-whole, no-shorter, foreign-same, own-stops}
+use Rattle.framing.specs.Collector.{fed, heard}
+use Rattle.framing.specs.PieceLaws.{heard-pieces}
+use Rattle.framing.specs.CollectorLaws.{Holds, stop-heard}
 
--- no shorter request ends at the last byte of f
-abbrev pub Alone : ℕ → List ℕ → Type 0
-Alone node f = (j : ℕ) → 0 < j → j < length f → is_heard node (drop j f) ≡ false
+-- A REQUEST TO THIS NODE OR TO ALL IS HEARD AT ITS LAST BYTE
+pub own-heard : (node : ℕ) (c : Collector) (f : List ℕ) → Holds c [] → is_foreign node f ≡ false → is_request f ≡ true → (heard node c f ≡ f ∷ []) × Holds (fed node c f) []
+own-heard node c f h o e =
+    let w = (request-whole f e).1 in
+    stop-heard node c f h (omega (arith, w.least)) (omega (arith, w.most)) first o (own-stops node f o ∙ e)
+  where
+    first : (k : ℕ) → 0 < k → k < length f → stops node (take k f) ≡ false
+    first k z n = own-stops node (take k f) (foreign-same node (take k f) f (get_or-take k f 0 0 z) ∙ o) ∙ no-shorter f e k n
 
--- the last byte comes behind p, and a frame may have begun at the first of p
-pub record Begun (c : Collector) (p : List ℕ) (b : ℕ) : Type 0 where
-  pub short : length p < 256
-  pub window : length (entered c.bytes b) ≡ 256
-  pub places : length (entered c.marks c.next) ≡ 256
-  pub at : drop (255 - length p) (entered c.bytes b) ≡ p ++ (b ∷ [])
-  pub begins : may_begin (get_or (entered c.marks c.next) (255 - length p) 0) (reach_of c.lost (one_more c.held)) (drop (255 - length p) (entered c.bytes b)) ≡ true
+-- ---- a master's frames
+pub read-is-request : (node r : ℕ) → is_request (read_frame node r) ≡ true
+unfolding is_request is_unknown
+read-is-request node r = rw (read_whole node r) (unfold read_frame sealed in refl)
 
-pub open-begun : (node : ℕ) (c : Collector) (p : List ℕ) (b : ℕ) → Open c p → length p < 256 → Begun c p b
-open-begun node c p b h k =
-    record {
-      short = k;
-      window = window-length node c p b h k;
-      places = marks-length node c p b h k;
-      at = window-at node c p b h k;
-      begins = begins node c p b h k;
-    }
+pub write-is-request : (node r : ℕ) (z : ℤ) → is_request (write_frame node r z) ≡ true
+unfolding is_request is_unknown
+write-is-request node r z = rw (write-whole node r z) (unfold write_frame sealed in refl)
 
--- ---- the last byte
-module _ (node : ℕ) (c : Collector) (p : List ℕ) (b : ℕ) (h : Begun c p b) (e : is_heard node (p ++ (b ∷ [])) ≡ true) (alone : Alone node (p ++ (b ∷ []))) where
-  size : length (p ++ (b ∷ [])) ≡ length p + 1
-  size = length-append p (b ∷ [])
+-- one frame heard, as what it asks of the node, and nothing held behind it
+abbrev HeardAs : ℕ → Collector → List ℕ → Demand → Type 0
+HeardAs node c f d = (map (asked_of node) (heard node c f) ≡ d ∷ []) × Holds (fed node c f) []
 
-  push-own : (pushed node c b).frame ≡ length p + 1
-  unfolding pushed
-  push-own =
-      let w = entered c.bytes b in
-      let i = 255 - length p in
-      let at = h.at in
-      let none : (j : ℕ) → i < j → j < length w → is_heard node (drop j w) ≡ false =
-      λ j l t.
-      let n : i + (j - i) ≡ j = omega arith in
-      let d : drop (j - i) (p ++ (b ∷ [])) ≡ drop j w = ap (drop (j - i)) (sym at) ∙ drop-drop (j - i) i w ∙ ap (λ (x : ℕ). drop x w) n in
-      ap (is_heard node) (sym d) ∙ alone (j - i) (omega arith) (omega (arith, size, h.window)) in
-      own-here node (reach_of c.lost (one_more c.held)) w (entered c.marks c.next) i nothing_seen
-      (omega (arith, h.window)) (omega (arith, h.places)) h.begins (ap (is_heard node) at ∙ e) none
-      ∙ ap length at ∙ size
+module _ (node : ℕ) (c : Collector) (h : Holds c []) where
+  heard-as : (f : List ℕ) (d : Demand) → is_foreign node f ≡ false → is_request f ≡ true → asked_of node f ≡ d → HeardAs node c f d
+  heard-as f d o e a =
+      let q = own-heard node c f h o e in
+      (ap (map (asked_of node)) q.0 ∙ ap (λ (x : Demand). x ∷ []) a, q.1)
 
-  pub push-heard : frame_in (pushed node c b) ≡ p ++ (b ∷ [])
-  unfolding frame_start
-  push-heard =
-      let d = pushed node c b in
-      let s : leb d.frame 256 ≡ true = le-leb d.frame 256 (omega (arith, push-own, h.short)) in
-      let n : 256 - d.frame ≡ 255 - length p = omega (arith, push-own, h.short) in
-      ap (λ (t : Bool). drop (cond t (256 - d.frame) 0) d.bytes) s ∙ ap (λ (i : ℕ). drop i d.bytes) n ∙ (unfold pushed in h.at)
+  read-own : (r : ℕ) → is_foreign node (read_frame node r) ≡ false
+  unfolding is_foreign read_frame sealed
+  read-own r = rw (eq-eqb node node refl, and-false)
 
-  pub push-once : heard_at (pushed node c b) [] ≡ (p ++ (b ∷ [])) ∷ []
-  push-once =
-      let d = pushed node c b in
-      let z : eqb d.frame 0 ≡ false = ne_eqb d.frame 0 (λ q. omega (arith, push-own)) in
-      ap (λ (t : Bool). cond t [] (frame_in d ∷ [])) z ∙ ap (λ (f : List ℕ). f ∷ []) push-heard
+  write-own : (r : ℕ) (z : ℤ) → is_foreign node (write_frame node r z) ≡ false
+  unfolding is_foreign write_frame sealed
+  write-own r z = rw (eq-eqb node node refl, and-false)
 
--- A REQUEST IS HEARD AT ITS LAST BYTE: before it what its other bytes give, then it, once; and behind it a frame may begin
-pub record Heard (node : ℕ) (c : Collector) (f : List ℕ) : Type 0 where
-  pub hearing : heard node c f ≡ heard node c (take (length f - 1) f) ++ (f ∷ [])
-  pub next : Open (fed node c f) []
+  all_own : (r : ℕ) (z : ℤ) → is_foreign node (write_frame 0 r z) ≡ false
+  unfolding is_foreign write_frame sealed
+  all_own r z = refl
 
-pub own-heard : (node : ℕ) (c : Collector) (f : List ℕ) → Open c [] → 0 < length f → length f ≤ 256 → is_heard node f ≡ true → Alone node f → Heard node c f
-unfolding heard
-own-heard node c f h some short e alone =
-    let s = split f some in
-    let a = s.init in
-    let b = s.last in
-    let w = s.whole in
-    let q : Open (fed node c a) a = fed-on node a c [] h (omega (arith, s.shorter)) in
-    let k : length a < 256 = omega (arith, s.shorter) in
-    let r = push-once node (fed node c a) a b (open-begun node (fed node c a) a b q k) (ap (is_heard node) (sym w) ∙ e) (rw w at alone) in
-    record {
-      hearing =
-          ap (heard node c) w ∙ heard-pieces node c a (b ∷ [])
-          ∙ ap (λ (x : List (List ℕ)). heard node c a ++ x) (r ∙ ap (λ (x : List ℕ). x ∷ []) (sym w))
-          ∙ ap (λ (x : List ℕ). heard node c x ++ (f ∷ [])) s.is;
-      next = frame-passed node c f h some short (and_both (ends node f) (is_ours node f) e).0;
-    }
+  pub read-heard : (r : ℕ) → (node ≡ 0 → ⊥) → is_mapped r ≡ true → HeardAs node c (read_frame node r) (replied (Read r))
+  read-heard r n m = heard-as (read_frame node r) (replied (Read r)) (read-own r) (read-is-request node r) (read_asked node r n m)
 
--- ---- whole frames of others
-unfoldable pub joined : List (List ℕ) → List ℕ
-joined [] = []
-joined (f ∷ l) = f ++ joined l
+  pub write-heard : (r : ℕ) (z : ℤ) → (node ≡ 0 → ⊥) → is_mapped r ≡ true → (r ≡ shown_register → ⊥) → mag z < 2 ^ 31 → HeardAs node c (write_frame node r z) (replied (Write r z))
+  write-heard r z n m s k = heard-as (write_frame node r z) (replied (Write r z)) (write-own r z) (write-is-request node r z) (write-asked node r z n m s k)
 
--- each is a whole frame
-pub data Frames (node : ℕ) : List (List ℕ) → Type 0 where
-  none : Frames node []
-  one : {f : List ℕ} {l : List (List ℕ)} → 0 < length f → length f ≤ 256 → ends node f ≡ true → Frames node l → Frames node (f ∷ l)
+  pub broadcast-heard : (r : ℕ) (z : ℤ) → is_mapped r ≡ true → (r ≡ shown_register → ⊥) → mag z < 2 ^ 31 → HeardAs node c (write_frame 0 r z) (silent (Write r z))
+  broadcast-heard r z m s k = heard-as (write_frame 0 r z) (silent (Write r z)) (all_own r z) (write-is-request 0 r z) (write-asked-of-all node r z m s k)
 
-pub all-passed : (node : ℕ) (c : Collector) (l : List (List ℕ)) → Open c [] → Frames node l → Open (fed node c (joined l)) []
-unfolding joined fed
-all-passed node c [] h none = h
-all-passed node c (f ∷ l) h (one some short e r) =
-    rw (fed-pieces node c f (joined l)) (all-passed node (fed node c f) l (frame-passed node c f h some short e) r)
-
--- A REQUEST RIGHT BEHIND ANY WHOLE FRAMES
-pub heard-behind : (node : ℕ) (c : Collector) (l : List (List ℕ)) (f : List ℕ) → Open c [] → Frames node l → 0 < length f → length f ≤ 256 → is_heard node f ≡ true → Alone node f
-    → Heard node (fed node c (joined l)) f
-heard-behind node c l f h r some short e alone = own-heard node (fed node c (joined l)) f (all-passed node c l h r) some short e alone
+-- one frame behind another, with no silence between
+pub one-behind-another : (node : ℕ) (c : Collector) (f g : List ℕ) → Holds c [] → is_foreign node f ≡ false → is_request f ≡ true → is_foreign node g ≡ false → is_request g ≡ true
+    → heard node c (f ++ g) ≡ f ∷ (g ∷ [])
+one-behind-another node c f g h o e p d =
+    let q = own-heard node c f h o e in
+    heard-pieces node c f g ∙ rw (q.0, (own-heard node (fed node c f) g q.1 p d).0)

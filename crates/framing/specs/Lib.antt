@@ -1,19 +1,8 @@
 -- The modules of this crate's definitions and laws, in the order in which to read them.
 pub mod Ends
 pub mod Collector
-pub mod Hearing
-pub mod ScanLaws
+pub mod EndLaws
 pub mod PieceLaws
-pub mod PlaceLaws
-pub mod StartLaws
+pub mod CollectorLaws
 pub mod HeardLaws
 pub mod PassedLaws
-pub mod RequestLaws
-pub mod SinceLaws
-pub mod OnceLaws
-pub mod LostLaws
-pub mod DeafLaws
-pub mod RecoverLaws
-pub mod SilenceLaws
-pub mod CostLaws
-pub mod HearingLaws

@@ -1,313 +1,200 @@
-// Finding frames on a shared serial line: the last 256 bytes are kept, by value, with a mark at each where a frame may have begun.
-// Uses `modbus` for what a frame is. It knows no clock: its caller tells silences and pauses.
-mod ends; // ends.rt: what may be a frame, and where it ends
+// Finding frames on a serial line: the bytes are collected, by value, until they are a whole frame, or until silence.
+// Uses `modbus` for what a frame is.
+ghost use Rattle.std.specs.Prelude.{◌≡◌, ◌≤◌, ◌<◌, length, drop};
+ghost use Rattle.framing.specs.Ends.{is_request, is_reply_long, is_reply, is_foreign};
+ghost use Rattle.framing.specs.Collector.{most_held, held_length, emptied, closed, fresh_collector, judged, added, kept, pushed, quieted, fed_to};
 
-ghost use Rattle.std.specs.Prelude.{◌≡◌, ◌||◌, ◌&&◌, cond, [], ◌∷◌, ◌++◌, ◌≤◌, length};
-ghost use Rattle.framing.specs.Ends.{is_ours, is_left_over};
-ghost use Rattle.framing.specs.Collector.{entered, may_begin, noted, marked, seen_in, nothing_seen, one_more, reach_of, lost_by, pushed, left_in, quiet, quieted, paused, fresh_collector, frame_start};
+use modbus::words;
 
-// The bytes that are kept: as many as a frame has at most.
-const KEPT: usize = modbus::MOST_BYTES;
+// The bytes that are held at most: one more than a frame has, so that a longer one is seen to be too long.
+const MOST_HELD: usize = modbus::MOST_BYTES + 1;
 
-// A shared line.
+// The bytes of a line since its last frame.
 #[derive(Drop)]
 pub struct Collector {
-    // The last bytes, the newest last.
-    pub bytes: [u8; KEPT],
-    // 1 where a frame may have begun.
-    pub marks: [u8; KEPT],
-    // 1 where a frame may begin at the next byte.
-    pub next: u8,
-    // The bytes since the last end of a frame.
-    pub held: usize,
-    // Whether a frame may have begun at each of these.
-    pub lost: bool,
-    // Whether there was silence.
-    pub listening: bool,
-    // How many of the last bytes are a frame that has ended for this node; 0 for none.
-    pub frame: usize,
+    // The bytes, and whatever stood behind them.
+    pub bytes: [u8; MOST_HELD],
+    // How many there are.
+    pub length: usize,
+    // Whether they are a frame; the next byte then begins another.
+    pub ended: bool,
 }
 
-// What was seen at the places where a frame may have begun.
+// What a collector made of bytes.
 #[derive(Drop)]
-pub struct Seen {
-    // How many bytes the request has that has ended; 0 for none.
-    pub own: usize,
-    // Whether a frame has ended.
-    pub found: bool,
-    // Whether one goes on.
-    pub live: bool,
+pub struct Fed {
+    // The collector behind them.
+    pub collector: Collector,
+    // The place behind the last byte taken: behind the end of a frame, or of the bytes.
+    pub next: usize,
 }
 
-// The bytes moved on by one.
-fn enter(a: [u8; KEPT], b: u8) -> [u8; KEPT]
-    ensures { result ≡ entered a b }
+// Whether the bytes are a whole request.
+fn whole_request(f: &[u8]) -> bool
+    ensures { result ≡ is_request f.now }
 {
-    let mut n = a;
-    let mut i: usize = 0;
-    while i < KEPT - 1 {
-        n[i] = n[i + 1];
-        i += 1;
+    !modbus::unknown(f) && !modbus::broken(f)
+}
+
+// Whether the bytes are as many as a reply has.
+fn reply_long(f: &[u8]) -> bool
+    ensures { result ≡ is_reply_long f.now }
+{
+    if f.len() < 5 {
+        return false;
     }
-    n[KEPT - 1] = b;
+    let function = f[1];
+    if function == modbus::READ {
+        return f.len() > 5 && f.len() == 5 + words::wide(f[2]);
+    }
+    if function == modbus::WRITE {
+        return f.len() == 8;
+    }
+    function >= 0x80 && f.len() == 5
+}
+
+// Whether the bytes are a whole reply. The length is tested first: it spares the CRC of a reply that grows.
+fn whole_reply(f: &[u8]) -> bool
+    ensures { result ≡ is_reply f.now }
+{
+    f.len() <= modbus::MOST_BYTES && (reply_long(f) && modbus::crc_right(f))
+}
+
+// Whether a frame is neither to this node nor to all.
+fn foreign(node: u8, f: &[u8]) -> bool
+    requires { 1 ≤ length f.now }
+    ensures { result ≡ is_foreign node f.now }
+{
+    let address = f[0];
+    address != 0 && address != node
+}
+
+// Nothing held.
+fn empty(c: Collector) -> Collector
+    ensures { result ≡ emptied c }
+{
+    let mut n = c;
+    n.length = 0;
+    n.ended = false;
     n
 }
 
-// Whether one of two.
-fn either(a: bool, b: bool) -> bool
-    ensures { result ≡ (a || b) }
+// The bytes held as a frame.
+fn close(c: Collector) -> Collector
+    ensures { result ≡ closed c }
 {
-    a || b
+    let mut n = c;
+    n.ended = true;
+    n
 }
 
-// The length of a request that has ended, or the one before.
-fn own_length(node: u8, before: usize, whole: bool, f: &[u8]) -> usize
-    ensures { result ≡ cond (whole && is_ours node f.now) (length f.now) before }
+// One byte behind the first `n`.
+fn add(c: Collector, n: usize, b: u8) -> Collector
+    requires { n < most_held }
+    ensures { result ≡ added c n b }
 {
-    if whole {
-        if ends::ours(node, f) {
-            return f.len();
-        }
-        return before;
-    }
-    before
+    let mut d = c;
+    d.bytes[n] = b;
+    d.length = n + 1;
+    d.ended = false;
+    d
 }
 
-// What one place adds.
-fn note(node: u8, s: Seen, f: &[u8]) -> Seen
-    ensures { result ≡ noted node s f.now }
+// How many bytes a new one follows.
+fn still_held(c: Collector) -> usize
+    ensures { result ≡ kept c }
 {
-    let whole = ends::ended(node, f);
-    let own = own_length(node, s.own, whole, f);
-    let found = either(s.found, whole);
-    let live = either(s.live, ends::goes_on(node, f));
-    Seen { own, found, live }
-}
-
-// The same where a frame may have begun.
-fn mark(node: u8, reach: usize, s: Seen, m: u8, f: &[u8]) -> Seen
-    ensures { result ≡ marked node reach s m f.now }
-{
-    if m == 1 {
-        return note(node, s, f);
-    }
-    if f.len() <= reach {
-        return note(node, s, f);
-    }
-    s
-}
-
-// All places.
-fn scan(node: u8, reach: usize, bytes: &[u8], marks: &[u8]) -> Seen
-    requires { length bytes.now ≤ length marks.now }
-    ensures { result ≡ seen_in node reach nothing_seen bytes.now marks.now }
-{
-    let mut s = Seen {
-        own: 0,
-        found: false,
-        live: false,
-    };
-    let mut i: usize = 0;
-    while i < bytes.len() {
-        s = mark(node, reach, s, marks[i], &bytes[i..]);
-        i += 1;
-    }
-    s
-}
-
-// One byte more since the last end.
-fn one_more(held: usize) -> usize
-    ensures { result ≡ one_more held }
-{
-    if held < KEPT {
-        return held + 1;
-    }
-    KEPT
-}
-
-// How many bytes back each may begin a frame.
-fn reach_of(lost: bool, held: usize) -> usize
-    ensures { result ≡ reach_of lost held }
-{
-    if lost {
-        return held;
-    }
-    0
-}
-
-// Whether the line is lost.
-fn lost_by(c: Collector, s: Seen) -> bool
-    ensures { result ≡ lost_by c s }
-{
-    if c.listening {
-        if s.found {
-            return false;
-        }
-        if c.lost {
-            return true;
-        }
-        return !s.live;
-    }
-    false
-}
-
-// 1 for true.
-fn bit(t: bool) -> u8
-    ensures { result ≡ cond t 1 0 }
-{
-    if t {
-        return 1;
-    }
-    0
-}
-
-// None behind an end.
-fn held_behind(found: bool, held: usize) -> usize
-    ensures { result ≡ cond found 0 held }
-{
-    if found {
+    if c.ended {
         return 0;
     }
-    held
+    c.length
 }
 
-// One byte from the line.
-pub fn push(node: u8, c: Collector, b: u8) -> Collector
-    ensures { result ≡ pushed node c b }
+// How many bytes of a collector are held: those of its frame, where one has ended.
+pub fn held_length(c: Collector) -> usize
+    ensures is { result ≡ held_length c }
+    ensures within { result ≤ most_held }
 {
-    let old = c.bytes;
-    let before = c.marks;
-    let bytes = enter(old, b);
-    let marks = enter(before, c.next);
-    let more = one_more(c.held);
-    let s = scan(node, reach_of(c.lost, more), &bytes, &marks);
-    Collector {
-        bytes,
-        marks,
-        next: bit(s.found),
-        held: held_behind(s.found, more),
-        lost: lost_by(c, s),
-        listening: c.listening,
-        frame: s.own,
+    if c.length <= MOST_HELD {
+        return c.length;
     }
+    MOST_HELD
 }
 
-// The frame of one place that is left at silence, or the one before.
-fn left_at(node: u8, reach: usize, k: usize, m: u8, f: &[u8]) -> usize
-    ensures { result ≡ cond (may_begin m reach f.now && is_left_over node f.now) (length f.now) k }
-{
-    if m == 1 {
-        if ends::left_over(node, f) {
-            return f.len();
-        }
-        return k;
-    }
-    if f.len() <= reach {
-        if ends::left_over(node, f) {
-            return f.len();
-        }
-        return k;
-    }
-    k
-}
-
-// The frame that is left at silence: its length, 0 for none.
-fn left(node: u8, reach: usize, bytes: &[u8], marks: &[u8]) -> usize
-    requires { length bytes.now ≤ length marks.now }
-    ensures { result ≡ left_in node reach 0 bytes.now marks.now }
-{
-    let mut k: usize = 0;
-    let mut i: usize = 0;
-    while i < bytes.len() {
-        k = left_at(node, reach, k, marks[i], &bytes[i..]);
-        i += 1;
-    }
-    k
-}
-
-// A line whose bytes are dropped: a frame may begin at the next.
-pub fn begun(c: Collector) -> Collector
-    ensures { result ≡ quiet c.bytes 0 }
-{
-    let bytes = c.bytes;
-    Collector {
-        bytes,
-        marks: [0; KEPT],
-        next: 1,
-        held: 0,
-        lost: false,
-        listening: true,
-        frame: 0,
-    }
-}
-
-// Silence on the line.
-pub fn silence(node: u8, c: Collector) -> Collector
-    ensures { result ≡ quieted node c }
-{
-    let bytes = c.bytes;
-    let marks = c.marks;
-    let frame = left(node, reach_of(c.lost, c.held), &bytes, &marks);
-    Collector {
-        bytes,
-        marks: [0; KEPT],
-        next: 1,
-        held: 0,
-        lost: false,
-        listening: true,
-        frame,
-    }
-}
-
-// The mark behind a pause.
-fn next_behind(listening: bool, next: u8) -> u8
-    ensures { result ≡ cond listening 1 next }
-{
-    if listening {
-        return 1;
-    }
-    next
-}
-
-// A pause on the line.
-pub fn pause(c: Collector) -> Collector
-    ensures { result ≡ paused c }
-{
-    let bytes = c.bytes;
-    let marks = c.marks;
-    Collector {
-        bytes,
-        marks,
-        next: next_behind(c.listening, c.next),
-        held: c.held,
-        lost: c.lost,
-        listening: c.listening,
-        frame: 0,
-    }
-}
-
-// A line on which nothing was heard yet, not even silence.
+// A line on which nothing was sent.
 pub fn fresh() -> Collector
     ensures { result ≡ fresh_collector }
 {
     Collector {
-        bytes: [0; KEPT],
-        marks: [0; KEPT],
-        next: 0,
-        held: 0,
-        lost: false,
-        listening: false,
-        frame: 0,
+        bytes: [0; MOST_HELD],
+        length: 0,
+        ended: false,
     }
 }
 
-// Where the frame that has ended begins; it goes up to the last byte.
-pub fn frame_start(c: Collector) -> usize
-    ensures is { result ≡ frame_start c }
-    ensures within { result ≤ 256 }
+// Whether the bytes held end a frame, to be taken or passed over.
+fn judge(node: u8, c: Collector) -> Collector
+    requires { (1 ≤ c.length) × (c.length ≤ most_held) }
+    ensures { result ≡ judged node c }
 {
-    if c.frame <= KEPT {
-        return KEPT - c.frame;
+    let bytes = c.bytes;
+    let n = c.length;
+    let f = &bytes[..n];
+    let request = whole_request(f);
+    if foreign(node, f) {
+        if request {
+            return empty(c);
+        }
+        if whole_reply(f) {
+            return empty(c);
+        }
+        return c;
     }
-    0
+    if request {
+        return close(c);
+    }
+    c
+}
+
+// One byte from the line.
+fn push(node: u8, c: Collector, b: u8) -> Collector
+    ensures { result ≡ pushed node c b }
+{
+    let n = still_held(c);
+    if n < MOST_HELD {
+        return judge(node, add(c, n, b));
+    }
+    c
+}
+
+// Silence on the line.
+pub fn silence(c: Collector) -> Collector
+    ensures { result ≡ quieted c }
+{
+    if still_held(c) == 0 {
+        return empty(c);
+    }
+    close(c)
+}
+
+// Takes bytes from place `at` on, up to the end of a frame or of the bytes.
+pub fn feed(node: u8, c: Collector, bytes: &[u8], at: usize) -> Fed
+    ensures { result ≡ fed_to node c (drop at bytes.now) at }
+{
+    let mut d = c;
+    let mut i = at;
+    while i < bytes.len() {
+        d = push(node, d, bytes[i]);
+        i += 1;
+        if d.ended {
+            return Fed {
+                collector: d,
+                next: i,
+            };
+        }
+    }
+    Fed {
+        collector: d,
+        next: i,
+    }
 }

@@ -1,19 +1,19 @@
 -- Worked frames, computed from the definitions: the check value that is published for this CRC, frames of the public documents, and one for each test of a frame.
 use Rattle.std.specs.Prelude.{◌≡◌, refl, List, [], ◌∷◌, ℕ, pos, negsuc}
-use Rattle.integers.specs.TwosComplement.{signed_of, bits_of}
+use Rattle.integers.specs.TwosComplement.{bits_of}
 use Rattle.modbus.specs.Crc.{bit_step, bit_steps, byte_step, crc_from, crc_of, sealed}
-use Rattle.modbus.specs.declared.Request.TheVariants.{Broken, Ignored, Exception, Read, Write}
-use Rattle.modbus.specs.Request.{is_misfit, crc_right, is_broken, is_unknown, wrong_amount, request_in, replied, silent, asked_of}
+use Rattle.modbus.specs.declared.Request.TheVariants.{Broken, Ignored, Exception, Read}
+use Rattle.modbus.specs.Request.{is_misfit, crc_right, is_broken, is_mapped, is_unknown, wrong_amount, wrong_start, request_in, replied, silent, asked_of}
 use Rattle.modbus.specs.Replies.{read_frame, write_frame, write_reply, exception_reply}
 
 -- lists of bytes
-abbrev pub five : ℕ → ℕ → ℕ → ℕ → ℕ → List ℕ → List ℕ
+abbrev five : ℕ → ℕ → ℕ → ℕ → ℕ → List ℕ → List ℕ
 five a b c d e l = a ∷ (b ∷ (c ∷ (d ∷ (e ∷ l))))
 
-abbrev pub eight : ℕ → ℕ → ℕ → ℕ → ℕ → ℕ → ℕ → ℕ → List ℕ
+abbrev eight : ℕ → ℕ → ℕ → ℕ → ℕ → ℕ → ℕ → ℕ → List ℕ
 eight a b c d e f g h = five a b c d e (f ∷ (g ∷ (h ∷ [])))
 
-abbrev pub thirteen : ℕ → ℕ → ℕ → ℕ → ℕ → ℕ → ℕ → ℕ → ℕ → ℕ → ℕ → ℕ → ℕ → List ℕ
+abbrev thirteen : ℕ → ℕ → ℕ → ℕ → ℕ → ℕ → ℕ → ℕ → ℕ → ℕ → ℕ → ℕ → ℕ → List ℕ
 thirteen a b c d e f g h i j k l m = five a b c d e (eight f g h i j k l m)
 
 -- "123456789" gives hex 4B37
@@ -43,7 +43,7 @@ pub refused : exception_reply 0x0A 1 2 ≡ five 0x0A 0x81 0x02 0xB0 0x53 []
 unfolding exception_reply sealed crc_from byte_step bit_steps bit_step
 refused = refl
 
--- what is asked: an unknown function, of three registers; three registers; a word that starts at an odd register, which is for whoever serves it
+-- what is asked: an unknown function, of three registers; three registers from an odd one; an odd one
 pub unknown-function : asked_of 0x11 (eight 0x11 0x04 0x00 0x6B 0x00 0x03 0xC3 0x47) ≡ replied (Exception 4 1)
 unfolding asked_of is_broken is_misfit crc_right request_in is_unknown crc_from byte_step bit_steps bit_step
 unknown-function = refl
@@ -52,14 +52,14 @@ pub three-registers : asked_of 0x11 (eight 0x11 0x03 0x00 0x6B 0x00 0x03 0x76 0x
 unfolding asked_of is_broken is_misfit crc_right request_in is_unknown wrong_amount crc_from byte_step bit_steps bit_step
 three-registers = refl
 
-pub odd-register : asked_of 0x11 (thirteen 0x11 0x10 0x00 0x01 0x00 0x02 0x04 0x00 0x0A 0x01 0x02 0xC6 0xF0) ≡ replied (Write 1 (pos 0x0102000A))
-unfolding asked_of is_broken is_misfit crc_right request_in is_unknown wrong_amount signed_of crc_from byte_step bit_steps bit_step
+pub odd-register : asked_of 0x11 (thirteen 0x11 0x10 0x00 0x01 0x00 0x02 0x04 0x00 0x0A 0x01 0x02 0xC6 0xF0) ≡ replied (Exception 16 2)
+unfolding asked_of is_broken is_misfit crc_right request_in is_unknown wrong_amount wrong_start is_mapped crc_from byte_step bit_steps bit_step
 odd-register = refl
 
--- a read; of another node; and with the CRC's bytes exchanged, which is 20 for another node too
-pub read-of-1000 : asked_of 0x11 (eight 0x11 0x03 0x10 0x00 0x00 0x02 0xC2 0x5B) ≡ replied (Read 0x1000)
-unfolding asked_of is_broken is_misfit crc_right request_in is_unknown wrong_amount crc_from byte_step bit_steps bit_step
-read-of-1000 = refl
+-- the shown value; of another node; and with the CRC's bytes exchanged, which is 20 for another node too
+pub shown-value : asked_of 0x11 (eight 0x11 0x03 0x10 0x00 0x00 0x02 0xC2 0x5B) ≡ replied (Read 0x1000)
+unfolding asked_of is_broken is_misfit crc_right request_in is_unknown wrong_amount wrong_start is_mapped crc_from byte_step bit_steps bit_step
+shown-value = refl
 
 pub other-node : asked_of 0x12 (eight 0x11 0x03 0x10 0x00 0x00 0x02 0xC2 0x5B) ≡ silent Ignored
 unfolding asked_of is_broken is_misfit crc_right crc_from byte_step bit_steps bit_step

@@ -5,7 +5,7 @@ pub mod replies; // replies.rt: the bytes of a reply
 pub mod words; // words.rt: numbers of 16 bits and their bytes
 
 ghost use Rattle.std.specs.Prelude.{false, ◌≡◌, ◌≤◌, length};
-ghost use Rattle.modbus.specs.Request.{start_in, value_in, is_misfit, crc_right, is_broken, is_unknown, wrong_amount, request_in, asked_of};
+ghost use Rattle.modbus.specs.Request.{start_in, value_in, is_misfit, crc_right, is_broken, is_mapped, is_unknown, wrong_amount, wrong_start, request_in, asked_of};
 
 use integers::twos_complement;
 
@@ -18,6 +18,12 @@ pub const WRITE: u8 = 16;
 // The most bytes of a frame.
 pub const MOST_BYTES: usize = 256;
 
+// The registers of the slots, from 0 on: two for each of 104.
+const SLOT_REGISTERS: u16 = 2 * 104;
+
+// The first of the two registers of the shown value.
+pub const SHOWN_REGISTER: u16 = 0x1000;
+
 // What a frame asks.
 #[derive(Drop)]
 pub enum Request {
@@ -27,9 +33,9 @@ pub enum Request {
     Ignored,
     // Refused, with the function asked for and the exception's code.
     Exception(u8, u8),
-    // A read of the word that starts at this register.
+    // A read of the word that starts at this register: an even one from 0 to 206, or hex 1000.
     Read(u16),
-    // A write of a word that starts at this register.
+    // A write of a word that starts at this register: an even one from 0 to 206.
     Write(u16, i32),
 }
 
@@ -75,6 +81,13 @@ pub fn broken(f: &[u8]) -> bool
     f.len() < 4 || (f.len() > MOST_BYTES || (misfit(f) || !crc_right(f)))
 }
 
+// Whether a word that can be read starts at a register.
+fn mapped(register: u16) -> bool
+    ensures { result ≡ is_mapped register }
+{
+    register == SHOWN_REGISTER || register < SLOT_REGISTERS && register % 2 == 0
+}
+
 // Whether the function is none of the two that a slave knows.
 pub fn unknown(f: &[u8]) -> bool
     ensures { result ≡ is_unknown f.now }
@@ -102,6 +115,15 @@ fn start_of(f: &[u8]) -> u16
     words::number_of(f[2], f[3])
 }
 
+// Whether no word starts at the start register, or it is a write to the shown value.
+fn wrong_start(f: &[u8]) -> bool
+    requires { 8 ≤ length f.now }
+    ensures { result ≡ wrong_start f.now }
+{
+    let start = start_of(f);
+    !mapped(start) || f[1] == WRITE && start == SHOWN_REGISTER
+}
+
 // The word that a write brings.
 fn value_of(f: &[u8]) -> i32
     requires { 11 ≤ length f.now }
@@ -122,6 +144,9 @@ fn requested(f: &[u8]) -> Request
     }
     if wrong_amount(f) {
         return Request::Exception(f[1], 3);
+    }
+    if wrong_start(f) {
+        return Request::Exception(f[1], 2);
     }
     if f[1] == WRITE {
         return Request::Write(start_of(f), value_of(f));

@@ -4,7 +4,7 @@ use Rattle.std.specs.Prelude.{Bool, false, not, ◌&&◌, ◌||◌, cond, List, 
 use Rattle.std.specs.Int.Signed.{le_z}
 use Rattle.parameters.specs.declared.Loaded.{Loaded}
 use Rattle.parameters.specs.Rows.{lowest_out, default_table}
-use Rattle.parameters.specs.Slots.{with_word, resolution, high_bit, low_bit, error_bit, linearization, analog_start, analog_end, target, polarity, action, config, points_in_use, point_x, point_y}
+use Rattle.parameters.specs.Slots.{resolution, high_bit, low_bit, error_bit, linearization, analog_start, analog_end, target, polarity, action, config, points_in_use, point_x, point_y}
 use Rattle.integers.specs.Choice.{some}
 use Rattle.parameters.specs.Search.{first_of}
 
@@ -88,10 +88,3 @@ refused_with n slot = record { refusal = n; slot = slot; table = default_table }
 
 unfoldable pub load_of : List ℤ → Loaded
 load_of t = cond (eqb (load_refusal t) 0) (record { refusal = 0; slot = 0; table = t }) (refused_with (load_refusal t) (load_slot t))
-
--- a table loads with a word in a slot, and then has it; else nothing changes
-abbrev pub loads_with : List ℤ → ℕ → ℤ → Bool
-loads_with t slot x = eqb (load_refusal (with_word t slot x)) 0
-
-unfoldable pub stored_of : List ℤ → ℕ → ℤ → List ℤ
-stored_of t slot x = cond (loads_with t slot x) (with_word t slot x) t

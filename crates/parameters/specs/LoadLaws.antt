@@ -40,7 +40,7 @@ module _ (t : List ℤ) where
   unfolding load_of load_slot load_refusal conditions words_missing slot_out first_of
   load-range e h = rw (eq-eqb (length t) 104 e, lt-ltb (lowest_out t) 104 h)
 
-  pub passed : length t ≡ 104 → 104 ≤ lowest_out t → load_refusal t ≡ first_of 3 (conflicts t)
+  passed : length t ≡ 104 → 104 ≤ lowest_out t → load_refusal t ≡ first_of 3 (conflicts t)
   unfolding load_refusal conditions words_missing slot_out first_of
   passed e h = rw (eq-eqb (length t) 104 e, le-ltb (lowest_out t) 104 h)
 

@@ -3,8 +3,7 @@
 ghost use Rattle.std.specs.Prelude.{◌≡◌, ◌<◌, length};
 ghost use Rattle.integers.specs.Int.{P};
 ghost use Rattle.parameters.specs.Slots.{word_at, nat_at, with_word, with_offset, with_preselection};
-ghost use Rattle.parameters.specs.Load.{refused_with, load_of, loads_with, stored_of};
-ghost use Rattle.parameters.specs.Valid.{Valid};
+ghost use Rattle.parameters.specs.Load.{refused_with, load_of};
 
 mod checks; // checks.rt: checks 3 to 9
 pub mod rows; // rows.rt: ranges and defaults, check 2
@@ -45,27 +44,6 @@ pub fn changed(t: [i32; 104], slot: usize, x: i32) -> [i32; 104]
         next[slot] = x;
     }
     next
-}
-
-// Stores a word in a slot of a valid table that loads with it, and says whether it does; else nothing changes.
-pub fn store(t: &mut [i32; 104], slot: usize, x: i32) -> bool
-    requires { Valid t.old }
-    ensures is { result ≡ loads_with t.old slot x }
-    ensures stored { t.new ≡ stored_of t.old slot x }
-{
-    if slot >= 104 {
-        return true;
-    }
-    if !rows::in_range(slot, x) {
-        return false;
-    }
-    let was = t[slot];
-    t[slot] = x;
-    if checks::conflict(t) == 0 {
-        return true;
-    }
-    t[slot] = was;
-    false
 }
 
 // Stores the offset.

@@ -85,7 +85,7 @@ fn row_at(slot: usize) -> Row
 }
 
 // Whether a word is within the range of a slot.
-pub(crate) fn in_range(slot: usize, v: i32) -> bool
+fn in_range(slot: usize, v: i32) -> bool
     ensures { result ≡ in_range slot v }
 {
     let row = row_at(slot);

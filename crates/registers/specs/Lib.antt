@@ -1,8 +1,5 @@
 -- The modules of this crate's definitions and laws, in the order in which to read them.
 pub mod Start
 pub mod StartLaws
-pub mod Map
-pub mod MapLaws
 pub mod Serve
 pub mod ServeLaws
-pub mod Cases

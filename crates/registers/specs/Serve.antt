@@ -1,18 +1,17 @@
--- What a frame gives: the reply, the number, and the state after it. Request K2, from "The table read is the one in force" on.
+-- What a frame gives: the reply, the number, and the state after it. Request K2, from "Document 002 decides the map" on.
 -- Main properties (ServeLaws): a slot that was written is read back as it; what is read of a slot is the word in force; a frame that is no write
 -- carried out changes nothing at all, and after a write carried out the panel is the fresh one of the table in force with that slot changed.
-use Rattle.std.specs.Prelude.{Bool, true, false, cond, List, [], ℕ, eqb, ℤ}
+use Rattle.std.specs.Prelude.{Bool, true, false, cond, List, [], ℕ, ◌/◌, eqb, ℤ}
 use Rattle.state.specs.declared.Live.{Live}
 use Rattle.state.specs.declared.State.{State}
 use Rattle.state.specs.State.{state_of, fresh_of}
 use Rattle.modbus.specs.declared.Request.{Request}
 use Rattle.modbus.specs.declared.Request.TheVariants.{Broken, Ignored, Exception, Read, Write}
 use Rattle.modbus.specs.declared.replies.Reply.{Reply}
-use Rattle.modbus.specs.Request.{read_function, write_function, asked_of}
+use Rattle.modbus.specs.Request.{write_function, shown_register, asked_of}
 use Rattle.modbus.specs.Replies.{read_reply, write_reply, exception_reply, packed}
 use Rattle.parameters.specs.Load.{load_refusal}
-use Rattle.parameters.specs.Slots.{with_word}
-use Rattle.registers.specs.Map.{is_mapped, is_writable, slot_in, word_in}
+use Rattle.parameters.specs.Slots.{word_at, with_word}
 use Rattle.registers.specs.declared.Response.{Response}
 
 -- what a frame gives; `afresh` says that it was a write carried out
@@ -26,6 +25,16 @@ pub record Served : Type 0 where
 abbrev pub served_by : List ℤ → Response → Served
 served_by t r = record { state = state_of t r.live; reply = r.reply; refusal = r.refusal; afresh = r.afresh }
 
+-- ---- the map
+
+-- "parameter slot n lies in holding registers 2n (low half) and 2n + 1 (high half)"
+abbrev pub slot_in : ℕ → ℕ
+slot_in register = register / 2
+
+-- "and likewise the shown value in hex 1000 and 1001. The table read is the one in force"
+unfoldable pub word_in : List ℤ → ℤ → ℕ → ℤ
+word_in t shown register = cond (eqb register shown_register) shown (word_at t (slot_in register))
+
 -- ---- replies and refusals
 
 -- a reply where one is due
@@ -37,19 +46,6 @@ unchanged_by l reply n = record { live = l; reply = reply; refusal = n; afresh =
 
 abbrev pub unchanged : State → Reply → ℕ → Served
 unchanged s reply n = record { state = s; reply = reply; refusal = n; afresh = false }
-
--- an exception is answered where a reply is due, and changes nothing
-abbrev pub refused_by : ℕ → State → Bool → ℕ → ℕ → Served
-refused_by node s due function code = unchanged s (sent due (packed (exception_reply node function code))) 0
-
--- ---- a read
-
--- the word of the table in force; "an unmapped or odd start register .. is exception 2"
-unfoldable pub read_of : ℕ → State → Bool → ℕ → Served
-read_of node s due register =
-    cond (is_mapped register)
-    (unchanged s (sent due (packed (read_reply node (word_in s.table s.live.shown register)))) 0)
-    (refused_by node s due read_function 2)
 
 -- ---- a write
 
@@ -67,11 +63,7 @@ unfoldable pub written_of : ℕ → State → Bool → ℕ → ℤ → Served
 written_of node s due register z =
     cond (eqb (load_refusal (written_table s register z)) 0)
     (carried_out node s due register z)
-    (refused_by node s due write_function 3)
-
--- "an unmapped or odd start register or a write to the shown value is exception 2"
-unfoldable pub write_of : ℕ → State → Bool → ℕ → ℤ → Served
-write_of node s due register z = cond (is_writable register) (written_of node s due register z) (refused_by node s due write_function 2)
+    (unchanged s (sent due (packed (exception_reply node write_function 3))) 0)
 
 -- ---- a frame
 
@@ -79,10 +71,10 @@ write_of node s due register z = cond (is_writable register) (written_of node s 
 unfoldable pub request_of : ℕ → State → Bool → Request → Served
 request_of node s due Broken = unchanged s (packed []) 20
 request_of node s due Ignored = unchanged s (packed []) 0
-request_of node s due (Exception function code) = refused_by node s due function code
-request_of node s due (Read register) = read_of node s due register
-request_of node s due (Write register z) = write_of node s due register z
+request_of node s due (Exception function code) = unchanged s (sent due (packed (exception_reply node function code))) 0
+request_of node s due (Read register) = unchanged s (sent due (packed (read_reply node (word_in s.table s.live.shown register)))) 0
+request_of node s due (Write register z) = written_of node s due register z
 
--- WHAT A FRAME GIVES: `asked_of` tests for 20, 1 and 3, and 2 comes behind them
+-- WHAT A FRAME GIVES: `asked_of` has the order of the tests
 unfoldable pub served_of : ℕ → State → List ℕ → Served
 served_of node s f = request_of node s (asked_of node f).reply (asked_of node f).request

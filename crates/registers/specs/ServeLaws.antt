@@ -1,9 +1,9 @@
 -- What holds of every frame, node and state; then what a master's reads and writes give. Request K2.
-use Rattle.std.specs.Prelude.{◌≡◌, refl, Bool, true, false, cond, List, [], ℕ, ◌*◌, ◌/◌, ◌^◌, ◌≤◌, ◌<◌, eqb, ℤ, pos, get_or, set}
+use Rattle.std.specs.Prelude.{◌≡◌, refl, Bool, true, false, cond, List, [], ℕ, ◌*◌, ◌/◌, ◌%◌, ◌^◌, ◌≤◌, ◌<◌, eqb, ℤ, pos, get_or, set}
 use Rattle.std.proofs.Math.Path.{sym}
 use Rattle.std.proofs.Common.{subst, ap, ◌∙◌, length-set}
 use native.Mathlib.Omega.{arith}
-use borrow.Author.Tests.{eqb-true, ne_eqb}
+use borrow.Author.Tests.{eqb-true, eq-eqb, ne_eqb, lt-ltb}
 use Rattle.std.proofs.Math.ListN.{length}
 use Rattle.std.specs.Int.Signed.{mag}
 use Rattle.state.specs.declared.State.{State}
@@ -17,19 +17,20 @@ use Rattle.modbus.specs.declared.Request.TheVariants.{Broken, Ignored, Exception
 use Rattle.modbus.specs.declared.Demand.{Demand}
 use Rattle.modbus.specs.declared.replies.Reply.{Reply}
 use Rattle.modbus.specs.CrcLaws.{Bytes}
-use Rattle.modbus.specs.Request.{address_in, is_broken, read_function, write_function, silent, asked_of}
+use Rattle.modbus.specs.Request.{address_in, is_broken, write_function, shown_register, is_mapped, silent, asked_of}
 use Rattle.modbus.specs.RequestLaws.{one-byte-seen}
 use Rattle.modbus.specs.RoundTripLaws.{read_asked, write-asked, write-asked-of-all}
 use Rattle.modbus.specs.Crc.{sealed}
 use Rattle.modbus.specs.Replies.{read_frame, write_frame, read_reply, write_reply, exception_reply, longest_reply, packed}
-use Rattle.parameters.specs.Load.{load_refusal, loads_with, stored_of}
+use Rattle.panel.specs.declared.Loaded.{Loaded}
+use Rattle.panel.specs.Load.{loaded_of}
+use Rattle.parameters.specs.Load.{load_refusal}
+use Rattle.parameters.specs.LoadLaws.{answer-number}
 use Rattle.parameters.specs.Slots.{word_at, offset_slot, preselection_slot}
 use Rattle.parameters.specs.StoreLaws.{word-stored, offset-stored, preselection-stored}
 use Rattle.parameters.specs.Valid.{Valid}
 use Rattle.parameters.specs.ValidLaws.{loads}
-use Rattle.registers.specs.Map.{shown_register, is_mapped, is_writable, slot_in, word_in}
-use Rattle.registers.specs.MapLaws.{slot-mapped, slot-writable}
-use Rattle.registers.specs.Serve.{Served, sent, unchanged, refused_by, read_of, written_table, carried_out, written_of, write_of, request_of, served_of}
+use Rattle.registers.specs.Serve.{Served, word_in, sent, unchanged, written_table, carried_out, written_of, request_of, served_of}
 
 -- ---- every frame
 
@@ -41,85 +42,63 @@ unfolding written_of
 by_written node s due register z Q same carried =
     by-test (eqb (load_refusal (written_table s register z)) 0) _ _ Q (λ t. carried (eqb-true _ 0 (is_true _ t))) (λ _. same _ _)
 
-pub by-request : (node : ℕ) (s : State) (due : Bool) (q : Request) (Q : Served → Type 0) →
+by-request : (node : ℕ) (s : State) (due : Bool) (q : Request) (Q : Served → Type 0) →
     ((reply : Reply) (n : ℕ) → Q (unchanged s reply n)) →
-    ((register : ℕ) (z : ℤ) → is_writable register ≡ true → load_refusal (written_table s register z) ≡ 0 → Q (carried_out node s due register z)) →
-    Q (request_of node s due q)
-unfolding request_of read_of write_of
+    ((register : ℕ) (z : ℤ) → load_refusal (written_table s register z) ≡ 0 → Q (carried_out node s due register z)) → Q (request_of node s due q)
+unfolding request_of
 by-request node s due Broken Q same carried = same _ _
 by-request node s due Ignored Q same carried = same _ _
 by-request node s due (Exception function code) Q same carried = same _ _
-by-request node s due (Read register) Q same carried = by-test (is_mapped register) _ _ Q (λ _. same _ _) (λ _. same _ _)
-by-request node s due (Write register z) Q same carried =
-    by-test (is_writable register) _ _ Q (λ w. by_written node s due register z Q same (carried register z (is_true _ w))) (λ _. same _ _)
+by-request node s due (Read register) Q same carried = same _ _
+by-request node s due (Write register z) Q same carried = by_written node s due register z Q same (carried register z)
 
 pub by-served : (node : ℕ) (s : State) (f : List ℕ) (Q : Served → Type 0) →
     ((reply : Reply) (n : ℕ) → Q (unchanged s reply n)) →
-    ((register : ℕ) (z : ℤ) → is_writable register ≡ true → load_refusal (written_table s register z) ≡ 0 → Q (carried_out node s (asked_of node f).reply register z)) →
-    Q (served_of node s f)
+    ((register : ℕ) (z : ℤ) → load_refusal (written_table s register z) ≡ 0 → Q (carried_out node s (asked_of node f).reply register z)) → Q (served_of node s f)
 unfolding served_of
 by-served node s f Q same carried = by-request node s (asked_of node f).reply (asked_of node f).request Q same carried
 
 -- a valid state stays valid
-pub good-requested : (node : ℕ) {s : State} → Good s → (due : Bool) (q : Request) → Good (request_of node s due q).state
-unfolding fresh_of
-good-requested node {s} g due q =
-    by-request node s due q (λ (x : Served). Good x.state) (λ reply n. g)
-    (λ register z w e. let g = good-fresh (loads (written_table s register z) e) in record { table = g.table; result = g.result; drive = g.drive; driven = g.driven })
-
 pub good-served : (node : ℕ) {s : State} → Good s → (f : List ℕ) → Good (served_of node s f).state
-unfolding served_of
-good-served node g f = good-requested node g (asked_of node f).reply (asked_of node f).request
+unfolding fresh_of
+good-served node {s} g f =
+    by-served node s f (λ (x : Served). Good x.state) (λ reply n. g)
+    (λ register z e. let g = good-fresh (loads (written_table s register z) e) in record { table = g.table; result = g.result; drive = g.drive; driven = g.driven })
 
 -- every reply fits
-pub sent-fits : (due : Bool) (reply : Reply) → reply.length ≤ longest_reply → (sent due reply).length ≤ longest_reply
+sent-fits : (due : Bool) (reply : Reply) → reply.length ≤ longest_reply → (sent due reply).length ≤ longest_reply
 unfolding sent packed
 sent-fits true reply h = h
 sent-fits false reply h = omega arith
 
-abbrev Fits : Served → Type 0
-Fits x = x.reply.length ≤ longest_reply
-
-refusal-fits : (node : ℕ) (s : State) (due : Bool) (function code : ℕ) → Fits (refused_by node s due function code)
-unfolding packed sealed exception_reply
-refusal-fits node s due function code = sent-fits due _ (omega arith)
-
-request-fits : (node : ℕ) (s : State) (due : Bool) (q : Request) → Fits (request_of node s due q)
-unfolding request_of read_of write_of written_of packed sealed read_reply write_reply
+request-fits : (node : ℕ) (s : State) (due : Bool) (q : Request) → (request_of node s due q).reply.length ≤ longest_reply
+unfolding request_of written_of packed sealed exception_reply read_reply write_reply
 request-fits node s due Broken = omega arith
 request-fits node s due Ignored = omega arith
-request-fits node s due (Exception function code) = refusal-fits node s due function code
-request-fits node s due (Read register) =
-    by-test (is_mapped register) _ _ Fits
-    (λ _. sent-fits due (packed (read_reply node (word_in s.table s.live.shown register))) (omega arith))
-    (λ _. refusal-fits node s due read_function 2)
+request-fits node s due (Exception function code) = sent-fits due _ (omega arith)
+request-fits node s due (Read register) = sent-fits due _ (omega arith)
 request-fits node s due (Write register z) =
-    by-test (is_writable register) _ _ Fits
-    (λ _. by-test (eqb (load_refusal (written_table s register z)) 0) _ _ Fits
-    (λ _. sent-fits due (packed (write_reply node register)) (omega arith))
-    (λ _. refusal-fits node s due write_function 3))
-    (λ _. refusal-fits node s due write_function 2)
+    by-test (eqb (load_refusal (written_table s register z)) 0) _ _ (λ (x : Served). x.reply.length ≤ longest_reply)
+    (λ _. sent-fits _ (packed (write_reply node register)) (omega arith))
+    (λ _. sent-fits _ (packed (exception_reply node write_function 3)) (omega arith))
 
 pub reply-fits : (node : ℕ) (s : State) (f : List ℕ) → (served_of node s f).reply.length ≤ longest_reply
 unfolding served_of
 reply-fits node s f = request-fits node s (asked_of node f).reply (asked_of node f).request
 
--- what `request` promises of its response and the table beside it
-abbrev pub Promised : ℕ → State → Bool → Request → Served → Type 0
-Promised node s due q x = (x ≡ request_of node s due q) × (Good x.state × (x.reply.length ≤ longest_reply))
-
-pub promised : (node : ℕ) (s : State) (due : Bool) (q : Request) (x : Served) → Good s → x ≡ request_of node s due q → Promised node s due q x
-promised node s due q x g is = (
+pub promised : (node : ℕ) (s : State) (f : List ℕ) (x : Served) → Good s → x ≡ served_of node s f →
+    (x ≡ served_of node s f) × (Good x.state × (x.reply.length ≤ longest_reply))
+promised node s f x g is = (
   is,
   (
-    subst (λ (y : Served). Good y.state) (sym is) (good-requested node g due q),
-    subst Fits (sym is) (request-fits node s due q),
+    subst (λ (y : Served). Good y.state) (sym is) (good-served node g f),
+    subst (λ (y : Served). y.reply.length ≤ longest_reply) (sym is) (reply-fits node s f),
   ),
 )
 
 -- A FRAME THAT IS NOT A WRITE CARRIED OUT CHANGES NOTHING AT ALL
 pub still : (node : ℕ) (s : State) (f : List ℕ) → (served_of node s f).afresh ≡ false → (served_of node s f).state ≡ s
-still node s f = by-served node s f (λ (x : Served). x.afresh ≡ false → x.state ≡ s) (λ reply n e. refl) (λ register z w e k. let w : ◌≡◌ {A = ℕ} 0 1 = cc in absurd (omega arith))
+still node s f = by-served node s f (λ (x : Served). x.afresh ≡ false → x.state ≡ s) (λ reply n e. refl) (λ register z e k. let w : ◌≡◌ {A = ℕ} 0 1 = cc in absurd (omega arith))
 
 -- A WRITE CARRIED OUT STARTS AFRESH with a table that loads
 pub record Afresh (s : State) : Type 0 where
@@ -131,27 +110,24 @@ unfolding fresh_of
 afresh node s f =
     by-served node s f (λ (x : Served). x.afresh ≡ true → Afresh x.state)
     (λ reply n k. let w : ◌≡◌ {A = ℕ} 0 1 = cc in absurd (omega arith))
-    (λ register z w e k. record { loads = e; fresh = refl })
+    (λ register z e k. record { loads = e; fresh = refl })
 
 -- ---- whom a frame is for
 
 -- no reply is due to a frame that is not to this node
-pub none-due : (node : ℕ) (f : List ℕ) → (address_in f ≡ node → ⊥) → (asked_of node f).reply ≡ false
+none-due : (node : ℕ) (f : List ℕ) → (address_in f ≡ node → ⊥) → (asked_of node f).reply ≡ false
 unfolding asked_of
 none-due node f n =
     by-test (is_broken f) _ _ (λ (d : Demand). d.reply ≡ false) (λ _. refl)
     (λ _. by-test (eqb (address_in f) 0) _ _ (λ (d : Demand). d.reply ≡ false) (λ _. refl) (λ _. rw (ne_eqb (address_in f) node n)))
 
 not-due : (node : ℕ) (s : State) (q : Request) → (request_of node s false q).reply ≡ packed []
-unfolding request_of read_of write_of written_of sent
+unfolding request_of written_of sent
 not-due node s Broken = refl
 not-due node s Ignored = refl
 not-due node s (Exception function code) = refl
-not-due node s (Read register) = by-test (is_mapped register) _ _ (λ (x : Served). x.reply ≡ packed []) (λ _. refl) (λ _. refl)
-not-due node s (Write register z) =
-    by-test (is_writable register) _ _ (λ (x : Served). x.reply ≡ packed [])
-    (λ _. by-test (eqb (load_refusal (written_table s register z)) 0) _ _ (λ (x : Served). x.reply ≡ packed []) (λ _. refl) (λ _. refl))
-    (λ _. refl)
+not-due node s (Read register) = refl
+not-due node s (Write register z) = by-test (eqb (load_refusal (written_table s register z)) 0) _ _ (λ (x : Served). x.reply ≡ packed []) (λ _. refl) (λ _. refl)
 
 -- A FRAME TO ANOTHER NODE HAS NO REPLY, nor has a broadcast, which is to no node
 pub no-reply-to-others : (node : ℕ) (s : State) (f : List ℕ) → (address_in f ≡ node → ⊥) → (served_of node s f).reply ≡ packed []
@@ -185,22 +161,26 @@ one-byte-changed node s f i b g h k w n = rw (one-byte-seen f i b g h k w n)
 
 -- ---- a master's reads and writes
 
+slot-mapped : (n : ℕ) → n < 104 → is_mapped (2 * n) ≡ true
+unfolding is_mapped
+slot-mapped n h = rw (ne_eqb (2 * n) shown_register (λ e. omega arith), lt-ltb (2 * n) 208 (omega arith)) (eq-eqb (2 * n % 2) 0 (omega arith))
+
 module _ (node : ℕ) (s : State) (n : ℕ) (h : n < 104) where
   -- slot n is read as the word in force
   pub slot_read : (node ≡ 0 → ⊥) → served_of node s (read_frame node (2 * n)) ≡ unchanged s (packed (read_reply node (word_at s.table n))) 0
-  unfolding served_of request_of read_of sent word_in
+  unfolding served_of request_of sent word_in
   slot_read z =
       let half : 2 * n / 2 ≡ n = omega arith in
-      rw (read_asked node (2 * n) z, slot-mapped n h, ne_eqb (2 * n) shown_register (λ e. omega arith), half)
+      rw (read_asked node (2 * n) z (slot-mapped n h), ne_eqb (2 * n) shown_register (λ e. omega arith), half)
 
   pub slot-written : (z : ℤ) → (node ≡ 0 → ⊥) → mag z < 2 ^ 31 → served_of node s (write_frame node (2 * n) z) ≡ written_of node s true (2 * n) z
-  unfolding served_of request_of write_of
-  slot-written z o m = rw (write-asked node (2 * n) z o m, slot-writable n h)
+  unfolding served_of request_of
+  slot-written z o m = rw (write-asked node (2 * n) z o (slot-mapped n h) (λ e. omega arith) m)
 
   -- and by a broadcast, without a reply
   pub slot-written-by-all : (z : ℤ) → mag z < 2 ^ 31 → served_of node s (write_frame 0 (2 * n) z) ≡ written_of node s false (2 * n) z
-  unfolding served_of request_of write_of
-  slot-written-by-all z m = rw (write-asked-of-all node (2 * n) z m, slot-writable n h)
+  unfolding served_of request_of
+  slot-written-by-all z m = rw (write-asked-of-all node (2 * n) z (slot-mapped n h) (λ e. omega arith) m)
 
 -- A SLOT THAT WAS WRITTEN IS READ BACK AS IT
 module _ (node : ℕ) (s : State) (n : ℕ) (h : n < 104) (z : ℤ) (o : node ≡ 0 → ⊥) where
@@ -222,23 +202,8 @@ module _ (node : ℕ) (s : State) (n : ℕ) (h : n < 104) (z : ℤ) (o : node �
 
 -- the shown value
 pub shown_read : (node : ℕ) (s : State) → (node ≡ 0 → ⊥) → served_of node s (read_frame node shown_register) ≡ unchanged s (packed (read_reply node s.live.shown)) 0
-unfolding served_of request_of read_of sent word_in is_mapped
-shown_read node s o = rw (read_asked node shown_register o)
-
--- OUTSIDE THE MAP IS EXCEPTION 2, and so is a write to the shown value
-pub unmapped-read : (node : ℕ) (s : State) (r : ℕ) → (node ≡ 0 → ⊥) → is_mapped r ≡ false → served_of node s (read_frame node r) ≡ refused_by node s true read_function 2
-unfolding served_of request_of read_of
-unmapped-read node s r o e = rw (read_asked node r o, e)
-
-pub unmapped-write : (node : ℕ) (s : State) (r : ℕ) (z : ℤ) → (node ≡ 0 → ⊥) → mag z < 2 ^ 31 → is_writable r ≡ false →
-    served_of node s (write_frame node r z) ≡ refused_by node s true write_function 2
-unfolding served_of request_of write_of
-unmapped-write node s r z o m e = rw (write-asked node r z o m, e)
-
-pub shown-write-refused : (node : ℕ) (s : State) (z : ℤ) → (node ≡ 0 → ⊥) → mag z < 2 ^ 31 →
-    served_of node s (write_frame node shown_register z) ≡ refused_by node s true write_function 2
-unfolding is_writable is_mapped
-shown-write-refused node s z o m = unmapped-write node s shown_register z o m refl
+unfolding served_of request_of sent word_in is_mapped
+shown_read node s o = rw (read_asked node shown_register o refl)
 
 -- THE TABLE READ IS THE ONE IN FORCE: after a reset the offset's slot is read as what the result starts from, after a teach the preselection's as the result
 pub reset-read : (node : ℕ) (s : State) → (node ≡ 0 → ⊥) → Valid s.table →
@@ -253,14 +218,22 @@ unfolding teach_of
 teach-read node s k h o v =
     ap Served.reply (slot_read node (teach_of s k) (preselection_slot k) (omega arith) o) ∙ ap (λ (y : ℤ). packed (read_reply node y)) (preselection-stored k _ v h)
 
--- ---- a write as the store answers it
-module _ (node : ℕ) (s : State) (due : Bool) (register : ℕ) (z : ℤ) where
-  pub write_done : true ≡ loads_with s.table (slot_in register) z →
-      record { state = fresh_of (stored_of s.table (slot_in register) z); reply = sent due (packed (write_reply node register)); refusal = 0; afresh = true } ≡ written_of node s due register z
-  unfolding written_of stored_of
-  write_done e = rw (sym e)
+-- ---- a write as the load answers it
 
-  pub write-refused : false ≡ loads_with s.table (slot_in register) z →
-      unchanged (state_of (stored_of s.table (slot_in register) z) s.live) (sent due (packed (exception_reply node write_function 3))) 0 ≡ written_of node s due register z
-  unfolding written_of stored_of
-  write-refused e = rw (sym e)
+-- what the code makes of a load that is not refused
+abbrev pub started : ℕ → List ℤ → Loaded → Bool → ℕ → Served
+started node t l due register =
+    record { state = state_of t l.state.live; reply = sent due (packed (write_reply node register)); refusal = 0; afresh = true }
+
+module _ (node : ℕ) (s : State) (due : Bool) (register : ℕ) (z : ℤ) (t : List ℤ) (l : Loaded) (e : t ≡ written_table s register z) (k : l ≡ loaded_of t) where
+  number-of-load : l.refusal ≡ load_refusal (written_table s register z)
+  unfolding loaded_of
+  number-of-load = rw (k, e) (answer-number (written_table s register z))
+
+  pub refused-write : (l.refusal ≡ 0 → ⊥) → unchanged s (sent due (packed (exception_reply node write_function 3))) 0 ≡ written_of node s due register z
+  unfolding written_of
+  refused-write n = rw (ne_eqb (load_refusal (written_table s register z)) 0 (λ q. n (number-of-load ∙ q)))
+
+  pub write_done : l.refusal ≡ 0 → started node t l due register ≡ written_of node s due register z
+  unfolding written_of loaded_of fresh_of
+  write_done n = rw (eq-eqb (load_refusal (written_table s register z)) 0 (sym number-of-load ∙ n), k, e)

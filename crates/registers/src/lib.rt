@@ -1,14 +1,12 @@
 // The panel as a Modbus slave: a start with a node address, and the answer to one frame.
-// Uses `modbus` for the bytes, `panel` to load, `parameters` for the table and a word stored in it, and `state`.
-pub mod map; // map.rt: the registers
-
-ghost use Rattle.std.specs.Prelude.{◌≡◌, ◌≤◌};
+// Uses `modbus` for the bytes, `panel` to load, `parameters` for the table, and `state`.
+ghost use Rattle.std.specs.Prelude.{◌≡◌, [], ◌≤◌};
 ghost use Rattle.state.specs.State.{state_of};
 ghost use Rattle.state.specs.Valid.{Good};
-ghost use Rattle.modbus.specs.Replies.{exception_reply, packed, longest_reply};
+ghost use Rattle.modbus.specs.Replies.{packed, longest_reply};
 ghost use Rattle.parameters.specs.Valid.{Valid};
 ghost use Rattle.registers.specs.Start.{is_node, started_of};
-ghost use Rattle.registers.specs.Serve.{sent, unchanged_by, read_of, write_of, request_of, served_of, served_by};
+ghost use Rattle.registers.specs.Serve.{word_in, sent, unchanged_by, written_of, request_of, served_of, served_by};
 
 use modbus::replies::Reply;
 use modbus::{Demand, Request, replies};
@@ -34,7 +32,7 @@ pub struct Response {
 }
 
 // Whether a number is a node address.
-pub fn is_node(node: u32) -> bool
+fn is_node(node: u32) -> bool
     ensures { result ≡ is_node node }
 {
     if node < LOWEST_NODE {
@@ -59,8 +57,23 @@ pub fn start(node: u32, words: &[i32]) -> Loaded
     }
 }
 
+// The word that starts at a register: the shown value, or the word of a slot in force; 0 where there is none.
+fn word_in(t: &[i32; 104], shown: i32, register: u16) -> i32
+    requires { Valid t.now }
+    ensures { result ≡ word_in t.now shown register }
+{
+    if register == modbus::SHOWN_REGISTER {
+        return shown;
+    }
+    let slot = (register / 2) as usize;
+    if slot < 104 {
+        return parameters::word(t, slot);
+    }
+    0
+}
+
 // A reply where one is due.
-pub fn send(due: bool, reply: Reply) -> Reply
+fn send(due: bool, reply: Reply) -> Reply
     ensures { result ≡ sent due reply }
 {
     if due {
@@ -81,43 +94,23 @@ fn unchanged(l: Live, reply: Reply, refusal: u8) -> Response
     }
 }
 
-// An exception, which changes nothing.
-fn refused(node: u8, l: Live, due: bool, function: u8, code: u8) -> Response
-    ensures { result ≡ unchanged_by l (sent due (packed (exception_reply node function code))) 0 }
-{
-    unchanged(
-        l,
-        send(due, replies::exception_reply(node, function, code)),
-        0,
-    )
-}
-
-// A read: the word, or exception 2.
-fn read(node: u8, t: &[i32; 104], l: Live, due: bool, register: u16) -> Response
-    requires { Valid t.now }
-    ensures { served_by t.now result ≡ read_of node (state_of t.now l) due register }
-{
-    if !map::mapped(register) {
-        return refused(node, l, due, modbus::READ, 2);
-    }
-    let z = map::word_in(t, l.shown, register);
-    unchanged(l, send(due, replies::read_reply(node, z)), 0)
-}
-
-// A write: the word is stored where the table loads with it, and the panel starts afresh; or it is refused.
+// A write: the table in force with one slot changed is loaded and started afresh, or refused.
 fn write(node: u8, t: &mut [i32; 104], l: Live, due: bool, register: u16, z: i32) -> Response
-    requires { Valid t.old }
-    ensures { served_by t.new result ≡ write_of node (state_of t.old l) due register z }
+    ensures { served_by t.new result ≡ written_of node (state_of t.old l) due register z }
 {
-    if !map::writable(register) {
-        return refused(node, l, due, modbus::WRITE, 2);
-    }
     let slot = (register / 2) as usize;
-    if !parameters::store(t, slot, z) {
-        return refused(node, l, due, modbus::WRITE, 3);
+    let next = parameters::changed(*t, slot, z);
+    let x = panel::load(&next);
+    if x.refusal != 0 {
+        return unchanged(
+            l,
+            send(due, replies::exception_reply(node, modbus::WRITE, 3)),
+            0,
+        );
     }
-    let s = state::fresh(*t);
+    let s = x.state;
     let live = s.live;
+    *t = next;
     Response {
         live,
         reply: send(due, replies::write_reply(node, register)),
@@ -126,20 +119,27 @@ fn write(node: u8, t: &mut [i32; 104], l: Live, due: bool, register: u16, z: i32
     }
 }
 
-// What a frame asks, done, with the table changed in place.
-pub fn request(node: u8, t: &mut [i32; 104], l: Live, d: Demand) -> Response
-    requires { Good (state_of t.old l) }
-    ensures is { served_by t.new result ≡ request_of node (state_of t.old l) d.reply d.request }
-    ensures valid { Good (state_of t.new result.live) }
-    ensures fits { result.reply.length ≤ longest_reply }
+// What a frame asks, done.
+fn request(node: u8, t: &mut [i32; 104], l: Live, d: Demand) -> Response
+    requires { Valid t.old }
+    ensures { served_by t.new result ≡ request_of node (state_of t.old l) d.reply d.request }
 {
     let due = d.reply;
     let asked = d.request;
     match asked {
         Request::Broken => unchanged(l, replies::no_reply(), 20),
         Request::Ignored => unchanged(l, replies::no_reply(), 0),
-        Request::Exception(function, code) => refused(node, l, due, function, code),
-        Request::Read(register) => read(node, t, l, due, register),
+        Request::Exception(function, code) => {
+            unchanged(
+                l,
+                send(due, replies::exception_reply(node, function, code)),
+                0,
+            )
+        }
+        Request::Read(register) => {
+            let z = word_in(t, l.shown, register);
+            unchanged(l, send(due, replies::read_reply(node, z)), 0)
+        }
         Request::Write(register, z) => write(node, t, l, due, register, z),
     }
 }

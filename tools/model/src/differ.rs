@@ -1,5 +1,5 @@
-//! Runs another panelrun, console, planes, poller or slave on random cases and holds its output against
-//! the model's.
+//! Runs another panelrun, console, planes or poller on random cases and holds its output against the
+//! model's.
 
 use std::fs;
 use std::io::{self, ErrorKind, Write};
@@ -10,7 +10,6 @@ use std::thread;
 
 use crate::coverage::{self, Coverage};
 use crate::generate::planes::Met;
-use crate::generate::traffic::{self, Traffic};
 use crate::generate::{self, borders, sessions};
 use crate::planes;
 use crate::polling::{self, Polling};
@@ -28,24 +27,11 @@ pub trait Counts: Default + Send {
 /// An input, what the model prints for it, and what it meets.
 pub struct Case<C> {
     pub purpose: String,
-    /// Words behind the program's.
-    pub arguments: Vec<String>,
     pub input: Vec<u8>,
     pub expected: Vec<u8>,
     /// K8: what is printed for the output is the input.
     pub turns_back: bool,
-    /// What is said on standard error.
-    pub errors: &'static str,
     pub met: C,
-}
-
-impl<C> Case<C> {
-    /// Without arguments, and with nothing on standard error.
-    fn new(purpose: String, input: Vec<u8>, expected: impl Into<Vec<u8>>, met: C) -> Case<C> {
-        let expected = expected.into();
-        let (arguments, turns_back, errors) = Default::default();
-        Case { purpose, arguments, input, expected, turns_back, errors, met }
-    }
 }
 
 /// A case on which the two disagree.
@@ -80,7 +66,7 @@ pub fn panelrun_case(seed: u64, index: u64) -> Case<Coverage> {
         }
     };
     let (expected, met) = coverage::observe(&input);
-    Case::new(purpose, input, expected, met)
+    Case { purpose, input, expected: expected.into_bytes(), turns_back: false, met }
 }
 
 /// A text of console from a seed.
@@ -89,7 +75,7 @@ pub fn console_case(seed: u64, index: u64) -> Case<Tally> {
     let (expected, mut met) = tally::observe(&input);
     (0..sessions).for_each(|_| met.count("sessions"));
     let purpose = format!("sessions: {sessions}");
-    Case::new(purpose, input, expected, met)
+    Case { purpose, input, expected: expected.into_bytes(), turns_back: false, met }
 }
 
 /// K8: an input of planes from a seed.
@@ -98,7 +84,7 @@ pub fn planes_case(seed: u64, index: u64) -> Case<Met> {
     let expected = planes::turned_bytes(&input);
     let met = Met::of(content, &input, &expected);
     let purpose = format!("{}, {} bytes", content.name(), input.len());
-    Case { turns_back: true, ..Case::new(purpose, input, expected, met) }
+    Case { purpose, input, expected, turns_back: true, met }
 }
 
 /// K12: a text of poller from a seed.
@@ -106,17 +92,7 @@ pub fn poller_case(seed: u64, index: u64) -> Case<Polling> {
     let (theme, input) = generate::polls::text(seed, index);
     let (expected, met) = polling::observe(&input);
     let purpose = theme.name().into();
-    Case::new(purpose, input, expected, met)
-}
-
-/// K2: a line of slave from a seed, with its table in a file.
-pub fn slave_case(seed: u64, index: u64, table: &str) -> Case<traffic::Met> {
-    let Traffic { node, line, replies, met } = traffic::traffic(seed, index);
-    Case {
-        arguments: vec![node.to_string(), table.into()],
-        errors: "slave: the line has ended\n",
-        ..Case::new(format!("node {node}, {} bytes", line.len()), line, replies, met)
-    }
+    Case { purpose, input, expected: expected.into_bytes(), turns_back: false, met }
 }
 
 /// Compares `count` cases; the first difference ends the comparison.
@@ -164,38 +140,40 @@ fn work<C: Counts>(shared: &Shared<C>) -> io::Result<()> {
 
 /// Runs one case through the program, and its output once more where that turns back.
 fn compare<C>(program: &str, index: u64, case: Case<C>) -> io::Result<Option<Difference>> {
-    let difference = compare_run(program, index, &case)?;
-    if difference.is_some() || !case.turns_back {
+    let Case { purpose, input, expected, turns_back, .. } = case;
+    let difference = compare_run(program, index, &purpose, &input, &expected)?;
+    if difference.is_some() || !turns_back {
         return Ok(difference);
     }
-    let purpose = format!("{}, turned again", case.purpose);
-    let again = Case { purpose, input: case.expected, expected: case.input, ..case };
-    compare_run(program, index, &again)
+    compare_run(program, index, &format!("{purpose}, turned again"), &expected, &input)
 }
 
 /// Holds what the program prints for an input against what is expected.
-fn compare_run<C>(program: &str, index: u64, case: &Case<C>) -> io::Result<Option<Difference>> {
-    let output = run(program, &case.arguments, &case.input)?;
-    let trouble = trouble(&output, case.errors);
-    if output.stdout == case.expected && trouble.is_empty() {
+fn compare_run(
+    program: &str,
+    index: u64,
+    purpose: &str,
+    input: &[u8],
+    expected: &[u8],
+) -> io::Result<Option<Difference>> {
+    let output = run(program, input)?;
+    let trouble = trouble(&output);
+    if output.stdout == expected && trouble.is_empty() {
         return Ok(None);
     }
     Ok(Some(Difference {
         case: index,
-        purpose: case.purpose.clone(),
-        input: case.input.clone(),
-        expected: case.expected.clone(),
+        purpose: purpose.into(),
+        input: input.into(),
+        expected: expected.into(),
         actual: output.stdout,
         trouble,
     }))
 }
 
 /// Feeds an input to a program while its output is read; one that stops reading early is no error.
-fn run(program: &str, arguments: &[String], input: &[u8]) -> io::Result<Output> {
-    let mut words = program.split_whitespace();
-    let mut child = Command::new(words.next().unwrap_or_default())
-        .args(words)
-        .args(arguments)
+fn run(program: &str, input: &[u8]) -> io::Result<Output> {
+    let mut child = Command::new(program)
         .stdin(Stdio::piped())
         .stdout(Stdio::piped())
         .stderr(Stdio::piped())
@@ -211,14 +189,9 @@ fn run(program: &str, arguments: &[String], input: &[u8]) -> io::Result<Output> 
     })
 }
 
-/// Another text on standard error than the expected one, or an end by a signal.
-fn trouble(output: &Output, errors: &str) -> String {
+/// Text on standard error, or an end by a signal.
+fn trouble(output: &Output) -> String {
     let mut text = String::from_utf8_lossy(&output.stderr).into_owned();
-    match text == errors {
-        true => text.clear(),
-        false if text.is_empty() => text.push_str("nothing on standard error"),
-        false => {}
-    }
     if output.status.code().is_none() {
         text.push_str(&output.status.to_string());
     }

@@ -15,7 +15,6 @@ pub mod fast;
 pub mod float;
 pub mod fraction;
 pub mod generate;
-pub mod line;
 pub mod log;
 pub mod measure;
 pub mod mistaken;

@@ -1,11 +1,10 @@
 //! Commands of the model, as `USAGE` lists them.
 
+use std::env;
 use std::io::{self, Read, Write};
 use std::path::Path;
-use std::process::{self, ExitCode};
-use std::{env, fs};
+use std::process::ExitCode;
 
-use model::generate::traffic;
 use model::record::{self, Recording};
 use model::{
     bench, carriage, console, differ, generate, panelrun, planes, poller, polling, polls, print,
@@ -18,13 +17,12 @@ const USAGE: &str = "usage:
   model console < text > text
   model planes < bytes > bytes
   model poller < text > text
-  model slave [-v] NODE TABLE [EVENTS]  (a serial line on standard input and output)
+  model slave NODE TABLE [EVENTS]  (a serial line on standard input and output)
   model generate SEED CASE > input
   model differ PANELRUN_PATH SEED COUNT
   model differ-console CONSOLE_PATH SEED COUNT
   model differ-planes PLANES_PATH SEED COUNT
   model differ-poller POLLER_PATH SEED COUNT
-  model differ-slave SLAVE SEED COUNT
   model record runs SEED RUNS TABLES DIR
   model record sessions SEED COUNT DIR
   model record planes DIR
@@ -64,7 +62,8 @@ fn command(words: &[&str]) -> io::Result<bool> {
         ["console"] => console::serve(io::stdin().lock(), io::stdout().lock()).map(|()| true),
         ["planes"] => turn_planes(),
         ["poller"] => poller::serve(io::stdin().lock(), io::stdout().lock()).map(|()| true),
-        ["slave", words @ ..] => Ok(slave::run(words)),
+        ["slave", node, table] => slave::run(node, table, None),
+        ["slave", node, table, events] => slave::run(node, table, Some(events)),
         ["generate", seed, case] => generate_case(number(seed)?, number(case)?),
         ["differ", program, seed, count] => compare(program, number(seed)?, number(count)?),
         ["differ-console", program, seed, count] => {
@@ -75,9 +74,6 @@ fn command(words: &[&str]) -> io::Result<bool> {
         }
         ["differ-poller", program, seed, count] => {
             compare_poller(program, number(seed)?, number(count)?)
-        }
-        ["differ-slave", program, seed, count] => {
-            compare_slave(program, number(seed)?, number(count)?)
         }
         ["record", words @ .., folder] => write_record(&recording(words)?, folder),
         ["check", words @ .., folder] => check_record(&recording(words)?, folder),
@@ -191,23 +187,6 @@ fn compare_poller(program: &str, seed: u64, count: u64) -> io::Result<bool> {
     println!("{count} texts with {} lines compared, no difference", seen.of("lines"));
     print!("{seen}");
     Ok(seen.of(polling::OVER) == 0)
-}
-
-/// K2: each line is a file, without a silence before its end; the table is in another.
-fn compare_slave(program: &str, seed: u64, count: u64) -> io::Result<bool> {
-    let table = env::temp_dir().join(format!("model-slave-{}", process::id()));
-    fs::write(&table, traffic::TABLE)?;
-    let make = |index| differ::slave_case(seed, index, &table.to_string_lossy());
-    let compared = differ::differ(program, count, make);
-    fs::remove_file(&table)?;
-    let (seen, difference) = compared?;
-    if let Some(difference) = difference {
-        differ::report(&difference, "slave", differ::by_byte)?;
-        return Ok(false);
-    }
-    println!("{count} lines with {} bytes compared, no difference", seen.of("bytes"));
-    print!("{seen}");
-    Ok(true)
 }
 
 fn recording(words: &[&str]) -> io::Result<Recording> {

@@ -1,4 +1,4 @@
-//! Random inputs of panelrun and planes, texts of console and poller, and lines of slave, from a seed.
+//! Random inputs of panelrun and planes, and texts of console and poller, from a seed.
 
 pub mod borders;
 pub mod bursts;
@@ -12,7 +12,6 @@ pub mod polls;
 pub mod sessions;
 pub mod tables;
 pub mod theme;
-pub mod traffic;
 
 use crate::panelrun;
 use crate::rng::Rng;
