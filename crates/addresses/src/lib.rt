@@ -1,5 +1,7 @@
 // A set of addresses, 0 to 255, as four words of 64 bits: whether one is in it, whether none is, it with and without one, and the lowest above one.
 // Uses the laws of `bits` and `integers`; knows no panels and no turns.
+#![tactic(auto)]
+
 ghost use Rattle.std.specs.Prelude.{◌≡◌, ◌<◌};
 ghost use Rattle.addresses.specs.Addresses.{word_at, holds, is_empty, including, excluding};
 ghost use Rattle.addresses.specs.Search.{lowest_above};

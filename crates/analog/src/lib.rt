@@ -1,5 +1,7 @@
 // The analog value: the code of a result between analog start and end, and the drive of a code in volts or milliamps, with no rounding float step.
 // Uses `integers` for the one rounding division.
+#![tactic(auto)]
+
 ghost use Rattle.std.specs.Prelude.{◌≡◌, pos};
 ghost use Rattle.analog.specs.AnalogCode.{upper_of, lower_of, fraction, full_scale, lowest, held, on_scale, coded_of, CodeFits};
 ghost use Rattle.analog.specs.Drives.{float_of, drive_of, drive_value, analog_value, Unrounded};
@@ -8,7 +10,7 @@ ghost use Rattle.integers.specs.Fraction.{Same, rounded};
 use integers::Rounded;
 
 // What the analog line is driven with.
-#[derive(Drop)]
+#[derive(Clone, Copy)]
 pub enum Drive {
     // 0 V or 0 mA, in every format.
     Off,
@@ -19,7 +21,7 @@ pub enum Drive {
 }
 
 // An analog code.
-#[derive(Drop)]
+#[derive(Clone, Copy)]
 pub struct Coded {
     // Held to the ends of its format.
     pub code: i32,

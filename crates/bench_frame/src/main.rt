@@ -1,6 +1,8 @@
 // Serves frames by `registers::answer` again and again, for bench/run to time, and prints a sum over all answers.
 // Standard input: a table as panelrun has it, then frames, each behind its length of 2 bytes, lowest first; at most 512 KiB of them. Argument: how often they are served.
 // Uses `registers` for the answers to `modbus` frames on the values of `state`, `logrun` for the table, `decimal` for the argument, and `os`, `io` and `libc` to read and write.
+#![tactic(auto)]
+
 ghost use Rattle.std.specs.Prelude.{◌≡◌, ◌≤◌, length};
 ghost use Rattle.state.specs.State.{state_of};
 ghost use Rattle.state.specs.Valid.{Good};
@@ -48,7 +50,7 @@ fn with_answer(sum: u64, reply: Reply, refusal: u8) -> u64
 }
 
 // What an answer leaves beside the table.
-#[derive(Drop)]
+#[derive(Clone, Copy)]
 struct Summed {
     // The live values.
     live: Live,

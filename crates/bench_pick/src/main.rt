@@ -2,6 +2,8 @@
 // Standard input: steps of 2 bytes, kind and address, at most 4,096; a single byte that is left over is left out. Kind 0 is a pick, 1 a join, 2 a report of none, 3 a report of an error; another does nothing.
 // The first 64 steps are run once, those behind them as often as the argument says.
 // Uses `dispatcher` for the steps, `decimal` for the argument, and `os`, `io` and `libc` to read and write.
+#![tactic(auto)]
+
 ghost use Rattle.std.specs.Prelude.{◌≤◌};
 
 use decimal::Parsed;
@@ -12,7 +14,7 @@ use libc::{STDIN_FILENO, STDOUT_FILENO};
 const FIRST: usize = 128;
 
 // Where the steps have come.
-#[derive(Drop)]
+#[derive(Clone, Copy)]
 struct Run {
     // The dispatcher after them.
     dispatcher: Dispatcher,

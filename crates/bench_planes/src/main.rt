@@ -1,6 +1,8 @@
 // Turns words by `bitplanes::turn` again and again, there and back, for bench/run to time, and prints a sum over what is left at the end.
 // Standard input: words of 4 bytes, the lowest first, at most 4,096; what is behind them is left out. Argument: how often they are turned there and back.
 // Uses `bitplanes` for the turning, `events` for the words, `decimal` for the argument, and `os`, `io` and `libc` to read and write.
+#![tactic(auto)]
+
 ghost use Rattle.std.specs.Prelude.{◌≡◌, ◌*◌, ◌≤◌, length};
 
 use decimal::Parsed;

@@ -2,6 +2,8 @@
 // Standard input: an input of panelrun with at most 8,192 words of log. Argument: how often the log is run.
 // Uses `logrun` and `events` to read the input, `panel` for the steps on the values of `state`, `runs` for the words that stand for events, `measurement` and `analog` for error and drive, `driverecord` for the record,
 // `decimal` for the argument, and `os`, `io` and `libc` to read and write.
+#![tactic(auto)]
+
 ghost use Rattle.std.specs.Prelude.{◌*◌, ◌≤◌, length};
 ghost use Rattle.driverecord.specs.Numbers.{Numbers};
 ghost use Rattle.state.specs.State.{state_of};
@@ -124,7 +126,7 @@ fn part(t: &[i32; 104], o: Outcome) -> u64 {
 }
 
 // The live values and the sum so far.
-#[derive(Drop)]
+#[derive(Clone, Copy)]
 struct Summed {
     live: Live,
     sum: u64,

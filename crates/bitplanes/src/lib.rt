@@ -1,6 +1,8 @@
 // Bit planes for the recorder: each full group of 32 words is turned, so that bit j of word i becomes bit i of word j.
 // A group is turned by five rounds of masks and shifts; a remainder of fewer than 32 words is stored as it is.
 // Uses the laws of `bits`.
+#![tactic(auto)]
+
 ghost use Rattle.std.specs.Prelude.{◌≡◌, ◌++◌, ◌≤◌, ◌<◌, length, drop};
 ghost use Rattle.bitplanes.specs.Turned.{turned_group, turned_into};
 ghost use Rattle.bitplanes.specs.RoundSteps.{Width, First, mask_of, lower_of, upper_of, crossing, exchanged};

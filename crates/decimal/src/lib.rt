@@ -1,12 +1,14 @@
 // Whole numbers of at most 18 digits as decimal text: written into a buffer that the caller lends, and read back.
 // Uses the laws of `integers`.
+#![tactic(auto)]
+
 ghost use Rattle.std.specs.Prelude.{◌≡◌, true, ◌∷◌, ◌++◌, ◌≤◌, length, drop};
 ghost use Rattle.integers.specs.Int.{Within};
 ghost use Rattle.decimal.specs.Decimal.{largest, minus, digits_of, text_of, value_from, parsed_of};
 ghost use Rattle.decimal.specs.ByteSteps.{all_digits, is_natural};
 
 // What a text is read as.
-#[derive(Drop)]
+#[derive(Clone, Copy)]
 pub enum Parsed {
     // The number that the text is the text of.
     Number(i64),

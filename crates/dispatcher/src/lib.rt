@@ -1,5 +1,7 @@
 // One PC polls up to 32 panels on a line; the dispatcher picks the panel that is polled next (paper 02, K12).
 // Uses `addresses` for the panels of a group; knows addresses and reports, no panel and no line. Every value of `Dispatcher` is one, so nothing is asked of it.
+#![tactic(auto)]
+
 ghost use Rattle.std.specs.Prelude.{◌≡◌};
 ghost use Rattle.dispatcher.specs.Dispatch.{fresh_of, group_of, next_of, entered, left, polled_of, with_panel, with_report, outside, present, panels, register_of, answer, report_of, pick_of};
 
@@ -19,7 +21,7 @@ const PRESENT: u8 = 29;
 const TOO_MANY: u8 = 28;
 
 // The panels that are in error, or the ordinary ones: a group, which takes turns.
-#[derive(Drop)]
+#[derive(Clone, Copy)]
 pub struct Group {
     // Their addresses, address a as bit a % 64 of word a / 64.
     pub members: [u64; 4],
@@ -28,7 +30,7 @@ pub struct Group {
 }
 
 // The panels of a line, and where the polling stands.
-#[derive(Drop)]
+#[derive(Clone, Copy)]
 pub struct Dispatcher {
     // The panels whose last report was of an error.
     pub error: Group,
@@ -39,7 +41,7 @@ pub struct Dispatcher {
 }
 
 // What registering and reporting answer.
-#[derive(Drop)]
+#[derive(Clone, Copy)]
 pub struct Answer {
     // The dispatcher after it, the same where it is refused.
     pub dispatcher: Dispatcher,
@@ -48,7 +50,7 @@ pub struct Answer {
 }
 
 // What a pick chooses.
-#[derive(Drop)]
+#[derive(Clone, Copy)]
 pub enum Choice {
     // The panel at this address is polled.
     Panel(u8),
@@ -57,7 +59,7 @@ pub enum Choice {
 }
 
 // What a pick answers.
-#[derive(Drop)]
+#[derive(Clone, Copy)]
 pub struct Turn {
     // The dispatcher after it.
     pub dispatcher: Dispatcher,

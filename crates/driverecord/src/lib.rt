@@ -1,5 +1,7 @@
 // The record of what the analog line was driven with: present, lowest and highest drive.
 // Uses `analog` for the drive.
+#![tactic(auto)]
+
 ghost use Rattle.std.specs.Prelude.{◌≡◌};
 ghost use Rattle.driverecord.specs.DriveRecord.{present_of, empty_at, fresh_record, lower_of, higher_of, widened_by, left_alone, updated_of, emptied};
 ghost use Rattle.driverecord.specs.Numbers.{Number, Numbers};
@@ -7,7 +9,7 @@ ghost use Rattle.driverecord.specs.Numbers.{Number, Numbers};
 use analog::Drive;
 
 // Present, lowest and highest drive, in the unit of the format.
-#[derive(Drop)]
+#[derive(Clone, Copy)]
 pub struct DriveRecord {
     // 0 while the drive is off.
     pub present: f32,

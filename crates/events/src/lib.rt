@@ -1,5 +1,7 @@
 // The events of the engine, and the log that carries them: its words become events one at a time, so that a log may have any length.
 // It uses no other crate.
+#![tactic(auto)]
+
 mod parts;
 
 ghost use Rattle.std.specs.Prelude.{◌≡◌};
@@ -8,7 +10,7 @@ ghost use Rattle.events.specs.Bytes.{least_first};
 ghost use Rattle.events.specs.Log.{fresh_pending, kept, refused, happened, accepted_of, out_of_order, taken_of, end_of};
 
 // What the engine works on.
-#[derive(Drop)]
+#[derive(Clone, Copy)]
 pub enum Event {
     // A telegram, as the encoder sends it.
     Telegram(u32),
@@ -19,7 +21,7 @@ pub enum Event {
 }
 
 // What is kept from one word of the log to the next.
-#[derive(Drop)]
+#[derive(Clone, Copy)]
 pub struct Pending {
     // Whether the word before was an upper half, which waits for its lower half.
     pub waiting: bool,
@@ -28,7 +30,7 @@ pub struct Pending {
 }
 
 // What a word gives.
-#[derive(Drop)]
+#[derive(Clone, Copy)]
 pub enum Taken {
     // An event.
     Happened(Event),
@@ -39,7 +41,7 @@ pub enum Taken {
 }
 
 // The answer to one word.
-#[derive(Drop)]
+#[derive(Clone, Copy)]
 pub struct AfterWord {
     // What is kept for the next word.
     pub pending: Pending,

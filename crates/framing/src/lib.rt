@@ -1,5 +1,7 @@
 // Finding frames on a serial line: the bytes are collected, by value, until they are a whole frame, or until silence.
 // Uses `modbus` for what a frame is.
+#![tactic(auto)]
+
 ghost use Rattle.std.specs.Prelude.{◌≡◌, ◌≤◌, ◌<◌, length, drop};
 ghost use Rattle.framing.specs.Ends.{is_request, is_reply_long, is_reply, is_foreign};
 ghost use Rattle.framing.specs.Collector.{most_held, held_length, emptied, closed, fresh_collector, judged, added, kept, pushed, quieted, fed_to};
@@ -10,7 +12,7 @@ use modbus::words;
 const MOST_HELD: usize = modbus::MOST_BYTES + 1;
 
 // The bytes of a line since its last frame.
-#[derive(Drop)]
+#[derive(Clone, Copy)]
 pub struct Collector {
     // The bytes, and whatever stood behind them.
     pub bytes: [u8; MOST_HELD],
@@ -21,7 +23,7 @@ pub struct Collector {
 }
 
 // What a collector made of bytes.
-#[derive(Drop)]
+#[derive(Clone, Copy)]
 pub struct Fed {
     // The collector behind them.
     pub collector: Collector,

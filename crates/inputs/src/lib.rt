@@ -1,6 +1,8 @@
 // The three inputs: their commands on a panel's state, each on what the earlier ones left, where a refused one changes nothing; and the freeze.
 // The table is changed in place. Uses `settings` for what the inputs do, `parameters` to store, `reading` for the result of a reset, `state` for the state, and
 // `switching` for the locks, `driverecord` for the record.
+#![tactic(auto)]
+
 ghost use Rattle.std.specs.Prelude.{◌≡◌, ◌<◌, ◌≤◌};
 ghost use Rattle.integers.specs.Limit.{Z};
 ghost use Rattle.parameters.specs.Valid.{Valid};

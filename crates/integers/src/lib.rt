@@ -1,5 +1,7 @@
 // Whole numbers: the one rounding division and the one remainder of the engine, and the laws of signed numbers that all proofs use.
 // Uses no other crate.
+#![tactic(auto)]
+
 pub mod twos_complement; // twos_complement.rt: signed words of 32 bits and their bits
 
 ghost use Rattle.std.specs.Prelude.{◌≡◌};
@@ -9,7 +11,7 @@ ghost use Rattle.integers.specs.Round.{rounding, floor_mod};
 pub const Z: i64 = 99_999_999;
 
 // A fraction rounded.
-#[derive(Drop)]
+#[derive(Clone, Copy)]
 pub struct Rounded {
     // The nearest whole number, halves away from zero.
     pub value: i64,

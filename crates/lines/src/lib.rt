@@ -1,5 +1,7 @@
 // The lines that panelrun prints, each put into a buffer that the caller lends, at a place, with the place behind it as the answer.
 // Uses `text` to put them, and `panel`, `state`, `events`, `measurement` and `analog` for what a line tells.
+#![tactic(auto)]
+
 ghost use Rattle.std.specs.Prelude.{◌≡◌, ◌∷◌, [], ◌++◌, ◌+◌, ◌≤◌, length};
 ghost use Rattle.decimal.specs.Decimal.{largest};
 ghost use Rattle.text.specs.Marks.{space};

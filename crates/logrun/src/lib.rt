@@ -1,5 +1,7 @@
 // A log run to its lines, a piece at a time: the table from its bytes, the events stepped, their lines put into a lent buffer.
 // Uses `integers` for signed words, `events` for the log's words, `panel` for the steps on the values of `state`, and `lines` for what is printed.
+#![tactic(auto)]
+
 ghost use Rattle.std.specs.Prelude.{◌≡◌, ◌+◌, ◌*◌, ◌≤◌, eqb, length};
 ghost use Rattle.events.specs.declared.Taken.TheVariants.{Happened};
 ghost use Rattle.events.specs.Bytes.{words_in};
@@ -22,7 +24,7 @@ use state::{Live, State};
 pub const TABLE_BYTES: usize = 416;
 
 // How far a run has come.
-#[derive(Drop)]
+#[derive(Clone, Copy)]
 pub struct Progress {
     // The state of the panel.
     pub state: State,
@@ -35,7 +37,7 @@ pub struct Progress {
 }
 
 // How far a run has come, beside the table.
-#[derive(Drop)]
+#[derive(Clone, Copy)]
 struct Course {
     // The live values of the panel.
     live: Live,
@@ -48,7 +50,7 @@ struct Course {
 }
 
 // What words of the log give.
-#[derive(Drop)]
+#[derive(Clone, Copy)]
 struct Printed {
     // The course after them.
     course: Course,
@@ -57,7 +59,7 @@ struct Printed {
 }
 
 // What feeding the log gives.
-#[derive(Drop)]
+#[derive(Clone, Copy)]
 struct Fed {
     // The run after it.
     progress: Progress,
@@ -66,7 +68,7 @@ struct Fed {
 }
 
 // What a piece of the log gives.
-#[derive(Drop)]
+#[derive(Clone, Copy)]
 pub struct Piece {
     // The run after it.
     pub progress: Progress,
@@ -77,7 +79,7 @@ pub struct Piece {
 }
 
 // What the table gives.
-#[derive(Drop)]
+#[derive(Clone, Copy)]
 pub struct Opened {
     // The run before the first word, of the defaults where the table is refused.
     pub progress: Progress,

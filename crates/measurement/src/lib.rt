@@ -1,5 +1,7 @@
 // From a position to the result: direction, offset, round loop, scaling, linearization and the errors.
 // Uses `integers` for the rounding division and the remainder; knows plain numbers and the points' words, no slots.
+#![tactic(auto)]
+
 ghost use Rattle.std.specs.Prelude.{◌≡◌, ◌+◌, ◌*◌, ◌^◌, ◌≤◌, ◌<◌, pos, length};
 ghost use Rattle.integers.specs.Int.{Within};
 ghost use Rattle.integers.specs.Fraction.{whole, rounded};
@@ -10,7 +12,7 @@ ghost use Rattle.measurement.specs.Sound.{OnLine, Usable, Linearizable, Sound};
 use integers::Rounded;
 
 // What is wrong with a reading.
-#[derive(Drop)]
+#[derive(Clone, Copy)]
 pub enum Error {
     // Nothing.
     None,
@@ -35,14 +37,14 @@ pub fn error_number(e: Error) -> u32
 }
 
 // The result of a reading, 0 under an error.
-#[derive(Drop)]
+#[derive(Clone, Copy)]
 pub struct Measured {
     pub result: i32,
     pub error: Error,
 }
 
 // A reading, and where a half decided on the way to it, whatever its error.
-#[derive(Drop)]
+#[derive(Clone, Copy)]
 pub struct Measurement {
     pub measured: Measured,
     // In scaling.
@@ -52,7 +54,7 @@ pub struct Measurement {
 }
 
 // How a position becomes a result: the numbers as the table has them.
-#[derive(Drop)]
+#[derive(Clone, Copy)]
 pub struct Scaling {
     // 1 where the encoder counts the other way.
     pub direction: u32,
@@ -72,7 +74,7 @@ pub struct Scaling {
 }
 
 // A control point found.
-#[derive(Drop)]
+#[derive(Clone, Copy)]
 enum Found {
     // The point's place, counted from 0.
     At(usize),

@@ -1,5 +1,7 @@
 // The byte side of a Modbus RTU slave: what a frame asks, and the bytes of every reply. It knows frames and registers, and nothing of the panel.
 // Uses `integers` for signed words.
+#![tactic(auto)]
+
 mod checksum; // checksum.rt: the CRC
 pub mod replies; // replies.rt: the bytes of a reply
 pub mod words; // words.rt: numbers of 16 bits and their bytes
@@ -25,7 +27,7 @@ const SLOT_REGISTERS: u16 = 2 * 104;
 pub const SHOWN_REGISTER: u16 = 0x1000;
 
 // What a frame asks.
-#[derive(Drop)]
+#[derive(Clone, Copy)]
 pub enum Request {
     // Refusal 20: no frame, or one with a wrong length or CRC.
     Broken,
@@ -40,7 +42,7 @@ pub enum Request {
 }
 
 // What a frame asks, and whether it is to be answered.
-#[derive(Drop)]
+#[derive(Clone, Copy)]
 pub struct Demand {
     // What it asks.
     pub request: Request,

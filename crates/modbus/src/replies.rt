@@ -6,7 +6,7 @@ use crate::{checksum, words};
 use integers::twos_complement;
 
 // The bytes of a reply.
-#[derive(Drop)]
+#[derive(Clone, Copy)]
 pub struct Reply {
     // The bytes, and zeros behind them.
     pub bytes: [u8; 9],

@@ -1,6 +1,8 @@
 // The front door: load, step and advance, the outputs, and a telegram diagnosed and built. Whoever drives a panel calls this crate.
 // Uses `events`, `state`, `inputs` for the commands and the freeze, `reading` for what is accepted and read, `settings`, `switching` and `ssi`, and the error and drive enums of
 // `measurement` and `analog`.
+#![tactic(auto)]
+
 ghost use Rattle.std.specs.Prelude.{◌≡◌, false};
 ghost use Rattle.driverecord.specs.DriveRecord.{present_of};
 ghost use Rattle.driverecord.specs.Numbers.{Number, Numbers};
@@ -22,7 +24,7 @@ use state::{Live, Outcome, State};
 use switching::Switch;
 
 // The answer to an event.
-#[derive(Drop)]
+#[derive(Clone, Copy)]
 pub struct Answer {
     // The new state.
     pub state: State,
@@ -90,7 +92,7 @@ fn shown_after(t: &[i32; 104], levels: u8, shown: i32, res: i32) -> i32
 }
 
 // What an event does before switching and display.
-#[derive(Drop)]
+#[derive(Clone, Copy)]
 struct Begun {
     live: Live,
     note: u8,
@@ -227,7 +229,7 @@ pub fn step(s: State, e: Event) -> Answer
 }
 
 // What loading a table answers.
-#[derive(Drop)]
+#[derive(Clone, Copy)]
 pub struct Loaded {
     // 0, or the number of the check that refuses the table.
     pub refusal: u32,

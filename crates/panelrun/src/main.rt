@@ -1,5 +1,7 @@
 // Runs a log: table and log from standard input, lines to standard output, in pieces of fixed size.
 // Uses `logrun` for all that is printed, and `io` and `libc` to read and write.
+#![tactic(auto)]
+
 ghost use Rattle.std.specs.Prelude.{◌≡◌, length};
 ghost use Rattle.logrun.specs.Progress.{Ready};
 

@@ -1,5 +1,7 @@
 // The parameter table of the panel indicator: its rows, the meaning of its slots, and loading it with checks 1 to 9.
 // It may use the crate `integers` only.
+#![tactic(auto)]
+
 ghost use Rattle.std.specs.Prelude.{◌≡◌, ◌<◌, length};
 ghost use Rattle.integers.specs.Int.{P};
 ghost use Rattle.parameters.specs.Slots.{word_at, nat_at, with_word, with_offset, with_preselection};
@@ -62,7 +64,7 @@ pub fn store_preselection(t: &mut [i32; 104], k: usize, x: i32)
 }
 
 // What loading answers.
-#[derive(Drop)]
+#[derive(Clone, Copy)]
 pub struct Loaded {
     // 0, or the number of the check that refuses the table.
     pub refusal: u32,

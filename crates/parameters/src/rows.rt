@@ -3,7 +3,7 @@ ghost use Rattle.std.specs.Prelude.{◌≡◌};
 ghost use Rattle.parameters.specs.Rows.{row_of, row_at, in_range, lowest_out, default_table};
 
 // A slot's row: the lowest word, the highest word, and the default.
-#[derive(Drop)]
+#[derive(Clone, Copy)]
 struct Row(i32, i32, i32);
 
 // The hysteresis that all four preselections come with. Paper 02, K1.

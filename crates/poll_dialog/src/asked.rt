@@ -25,7 +25,7 @@ const BAD_REPORT: u8 = 3;
 const BAD_PICK: u8 = 4;
 
 // What a line asks for.
-#[derive(Drop)]
+#[derive(Clone, Copy)]
 pub(crate) enum Asked {
     // Nothing: no word, or a remark.
     Blank,

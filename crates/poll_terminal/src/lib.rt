@@ -1,5 +1,7 @@
 // A dispatcher over standard input and output: lines are read as they come, and each is answered before the next input is waited for (paper 02, K12, poller).
 // Uses `poll_dialog` for all that is said, `script` for the lines of the input, and `io` and `libc` to read and write.
+#![tactic(auto)]
+
 ghost use Rattle.std.specs.Prelude.{◌≡◌, ◌≤◌, length};
 ghost use Rattle.poll_dialog.specs.Dialog.{after_line};
 ghost use Rattle.script.specs.Collector.{most, collected};
@@ -11,7 +13,7 @@ use script::collector;
 use script::collector::{Collector, Extent};
 
 // The dispatcher, and the line that has not ended yet.
-#[derive(Drop)]
+#[derive(Clone, Copy)]
 struct Talk {
     // The panels, and where the polling stands.
     dispatcher: Dispatcher,
@@ -20,7 +22,7 @@ struct Talk {
 }
 
 // What a piece of the input leaves.
-#[derive(Drop)]
+#[derive(Clone, Copy)]
 struct Heard {
     // The dialog after it.
     talk: Talk,

@@ -1,5 +1,7 @@
 // One reading: a telegram gives what a result starts from, and that gives the result, the error, the analog code, the drive, and where a half decided.
 // Uses `settings` for the table, and `ssi`, `roundloop`, `measurement` and `analog`, which it hands the settings to.
+#![tactic(auto)]
+
 ghost use Rattle.std.specs.Prelude.{◌≡◌, ◌≤◌, ◌<◌, ◌^◌};
 ghost use Rattle.parameters.specs.Valid.{Valid};
 ghost use Rattle.measurement.specs.Sound as measurement;
@@ -15,7 +17,7 @@ use settings::Span;
 use ssi::Layout;
 
 // What a result starts from.
-#[derive(Drop)]
+#[derive(Clone, Copy)]
 pub struct Basis {
     // What the offset is subtracted from: the position after direction, with a round loop the count.
     pub start: u32,
@@ -28,7 +30,7 @@ pub struct Basis {
 }
 
 // What a telegram reads as.
-#[derive(Drop)]
+#[derive(Clone, Copy)]
 pub struct Reading {
     // The result, 0 under an error.
     pub result: i32,
@@ -40,7 +42,7 @@ pub struct Reading {
 }
 
 // A reading with its marks.
-#[derive(Drop)]
+#[derive(Clone, Copy)]
 pub struct Marked {
     pub reading: Reading,
     // Where a half decided: 1 for scaling, 2 for linearization, 4 for the code before it is held, added.

@@ -1,5 +1,7 @@
 // Lists of the lengths that were recorded from the model in tools/model: turned, turned again, and refused. What it prints is compared with the model's text.
 // Uses `bitplanes` for the turning, and `io` and `libc` to write.
+#![tactic(auto)]
+
 ghost use Rattle.std.specs.Prelude.{◌≡◌, ◌+◌, ◌≤◌, length};
 
 use libc::STDOUT_FILENO;

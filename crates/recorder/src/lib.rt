@@ -1,5 +1,7 @@
 // Telegrams as the recorder stores them: bytes, 4 a word and the lowest first, each full group of 32 words turned into its bit planes.
 // Uses `bitplanes` for the turning, `events` for words and their bytes, and `bytes` for a copy.
+#![tactic(auto)]
+
 ghost use Rattle.std.specs.Prelude.{◌≡◌, ◌*◌, length};
 ghost use Rattle.events.specs.Bytes.{words_in, bytes_of};
 ghost use Rattle.recorder.specs.Recorded.{turned_bytes, stored_into};
@@ -59,7 +61,7 @@ pub fn turn(input: &[u8], output: &mut [u8]) -> u8
     if output.len() < n {
         return 22;
     }
-    bytes::copy(input, output);
+    output[..n].copy_from_slice(input);
     let mut at = 0;
     while n - at >= GROUP {
         let end = at + GROUP;

@@ -1,5 +1,7 @@
 // The panel as a Modbus slave: a start with a node address, and the answer to one frame.
 // Uses `modbus` for the bytes, `panel` to load, `parameters` for the table, and `state`.
+#![tactic(auto)]
+
 ghost use Rattle.std.specs.Prelude.{◌≡◌, [], ◌≤◌};
 ghost use Rattle.state.specs.State.{state_of};
 ghost use Rattle.state.specs.Valid.{Good};
@@ -19,7 +21,7 @@ const LOWEST_NODE: u32 = 1;
 const HIGHEST_NODE: u32 = 247;
 
 // What a frame leaves beside the table.
-#[derive(Drop)]
+#[derive(Clone, Copy)]
 pub struct Response {
     // The live values after it.
     pub live: Live,

@@ -1,5 +1,7 @@
 // The count of a round loop: the step from one position of the encoder to the next, and the count after it, across the encoder's end too.
 // Uses `integers` for the remainder; knows plain numbers, no slots.
+#![tactic(auto)]
+
 ghost use Rattle.std.specs.Prelude.{◌≡◌, ◌≤◌, ◌^◌};
 ghost use Rattle.roundloop.specs.Count.{step_from, first_count, counted_of};
 

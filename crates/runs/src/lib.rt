@@ -1,5 +1,7 @@
 // Runs: lists of events from the fresh state of a loaded table, and what holds of every one.
 // Uses `panel` and the crates below it.
+#![tactic(auto)]
+
 ghost use Rattle.std.specs.Prelude.{◌≡◌};
 ghost use Rattle.state.specs.Valid.{Good};
 ghost use Rattle.runs.specs.Run.{last_of, answers_of};
@@ -40,7 +42,7 @@ fn run_on(a: Answer, log: &[u64]) -> Answer
 }
 
 // What a run answers.
-#[derive(Drop)]
+#[derive(Clone, Copy)]
 pub struct Ran {
     // 0, or the number of the check that refuses the table.
     pub refusal: u32,

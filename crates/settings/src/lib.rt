@@ -1,5 +1,7 @@
 // A table as the settings that the parts of the engine take: the telegram's layout, the scaling with the points, the analog span, the preselections and the inputs.
 // Above it nothing knows a slot. Uses `parameters` for the slots, and the settings' structs of `ssi`, `measurement` and `switching`.
+#![tactic(auto)]
+
 ghost use Rattle.std.specs.Prelude.{◌≡◌, ◌<◌, length};
 ghost use Rattle.settings.specs.Settings.{layout_of, scaling_of, points_of, span_of, preselection_of, preselections_of, settings_of, is_freeze, action_of, config_of, input_at};
 ghost use Rattle.parameters.specs.Slots.{bits_per_turn};
@@ -10,7 +12,7 @@ use ssi::Layout;
 use switching::Preselection;
 
 // The ends and the format of the analog value.
-#[derive(Drop)]
+#[derive(Clone, Copy)]
 pub struct Span {
     // 0 is ±10 V, 1 is 0..20 mA, 2 is 4..20 mA.
     pub format: u32,
@@ -20,7 +22,7 @@ pub struct Span {
 }
 
 // What an input does.
-#[derive(Drop)]
+#[derive(Clone, Copy)]
 pub enum Action {
     // Nothing.
     None,
@@ -37,7 +39,7 @@ pub enum Action {
 }
 
 // When an input acts, and while which level it freezes.
-#[derive(Drop)]
+#[derive(Clone, Copy)]
 pub enum Config {
     // On a fall; freezes while low.
     Low,
@@ -50,7 +52,7 @@ pub enum Config {
 }
 
 // The settings of one input.
-#[derive(Drop)]
+#[derive(Clone, Copy)]
 pub struct Input {
     pub action: Action,
     pub config: Config,
@@ -157,7 +159,7 @@ pub fn preselections(t: &[i32; 104]) -> [Preselection; 4]
 }
 
 // What the way of a telegram takes from a table, beside the control points.
-#[derive(Drop)]
+#[derive(Clone, Copy)]
 pub struct Settings {
     pub layout: Layout,
     pub scaling: Scaling,

@@ -1,6 +1,8 @@
 // The language of the gate's runs: one line in, what it prints out, and what is kept between lines. The meaning of a line is one definition, `Sheet`.
 // Uses `script` for lines that console has too, `logrun` for runs, `panel`, `settings` and `ssi` for questions, `lines` and `text` for what is written;
 // `io` and `libc` to read and write.
+#![tactic(auto)]
+
 mod log_words; // log_words.rt: the words of a log, and a table, as bytes
 mod orders; // orders.rt: the word that a line begins with
 pub mod reader; // reader.rt: lines from standard input
@@ -25,7 +27,7 @@ use state::{Extremes, State};
 use text::words;
 
 // What is kept between lines.
-#[derive(Drop)]
+#[derive(Clone, Copy)]
 pub struct Sheet {
     // The table of the next start.
     pub table: [i32; 104],
@@ -38,7 +40,7 @@ pub struct Sheet {
 }
 
 // What a line leaves.
-#[derive(Drop)]
+#[derive(Clone, Copy)]
 pub struct Said {
     // What is kept.
     pub sheet: Sheet,

@@ -5,7 +5,7 @@ ghost use Rattle.sheet.specs.Orders.{question_named, word_named};
 use text::words;
 
 // What is asked with a number.
-#[derive(Drop)]
+#[derive(Clone, Copy)]
 pub enum Question {
     // The telegram of a position, without and with an error.
     Build,
@@ -16,7 +16,7 @@ pub enum Question {
 }
 
 // What a line asks for, by its first word.
-#[derive(Drop)]
+#[derive(Clone, Copy)]
 pub enum Word {
     // What `script` makes of it.
     Plain,

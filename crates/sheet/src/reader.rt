@@ -10,7 +10,7 @@ use script::collector;
 use script::collector::{Collector, Extent};
 
 // What is kept between pieces of the input.
-#[derive(Drop)]
+#[derive(Clone, Copy)]
 struct Reader {
     // What is kept between lines.
     sheet: Sheet,

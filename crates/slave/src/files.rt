@@ -12,7 +12,7 @@ use script::Command;
 use state::State;
 
 // A table after a line.
-#[derive(Drop)]
+#[derive(Clone, Copy)]
 pub struct Listed {
     // The table.
     pub table: [i32; 104],
@@ -21,7 +21,7 @@ pub struct Listed {
 }
 
 // A panel after a line.
-#[derive(Drop)]
+#[derive(Clone, Copy)]
 pub struct Stepped {
     // The panel.
     pub state: State,
@@ -30,7 +30,7 @@ pub struct Stepped {
 }
 
 // A panel after a frame.
-#[derive(Drop)]
+#[derive(Clone, Copy)]
 pub struct Replied {
     // The panel.
     pub state: State,

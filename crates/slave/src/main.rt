@@ -1,6 +1,8 @@
 // The panel as a Modbus slave on a serial line: `slave NODE TABLE [EVENTS]`, the line on standard input and output.
 // TABLE has `slot` lines, EVENTS `t`, `i` and `c` lines. Uses `framing` to find frames, `registers` to start and to answer on the values of `state`,
 // `script` for lines, `parameters` for the defaults, `decimal` for NODE, and `os`, `io` and `libc` to read and write.
+#![tactic(auto)]
+
 ghost use Rattle.std.specs.Prelude.{◌≤◌};
 ghost use Rattle.state.specs.Valid.{Good};
 ghost use Rattle.modbus.specs.Replies.{longest_reply};
@@ -16,7 +18,7 @@ mod files; // files.rt: what a line of TABLE or EVENTS and a frame do
 mod stream; // stream.rt: the lines of a file or a terminal
 
 // A table as far as TABLE was read.
-#[derive(Drop)]
+#[derive(Clone, Copy)]
 struct Table {
     // Its words.
     words: [i32; 104],
@@ -25,7 +27,7 @@ struct Table {
 }
 
 // A panel and the events that come to it.
-#[derive(Drop)]
+#[derive(Clone, Copy)]
 struct Fed {
     // The panel.
     state: State,
@@ -34,7 +36,7 @@ struct Fed {
 }
 
 // The slave between two reads of the serial line.
-#[derive(Drop)]
+#[derive(Clone, Copy)]
 struct Slave {
     // Its node address.
     node: u8,

@@ -1,5 +1,7 @@
 // An SSI telegram: its position, its error bit and its diagnosis, and the telegram of a position. Bit 1 is the lowest.
 // It uses no other crate.
+#![tactic(auto)]
+
 pub mod doubling; // doubling.rt: the position in fewer steps, for bursts
 
 ghost use Rattle.std.specs.Prelude.{◌≡◌, ◌&&◌, ◌-◌, ◌^◌, ◌≤◌, ◌<◌, eqb};
@@ -8,7 +10,7 @@ ghost use Rattle.ssi.specs.Telegram.{accepted, level_of, error_reported, without
 ghost use Rattle.ssi.specs.Builder.{coded, level_asked, telegram_of, refused, built_of};
 
 // How a telegram is laid out, as the table has it.
-#[derive(Drop)]
+#[derive(Clone, Copy)]
 pub struct Layout {
     // N, the number of bits of a telegram.
     pub resolution: u32,
@@ -25,7 +27,7 @@ pub struct Layout {
 }
 
 // What a telegram says.
-#[derive(Drop)]
+#[derive(Clone, Copy)]
 pub struct Content {
     // 0, or 11 for a telegram with a bit above N.
     pub refusal: u8,
@@ -36,7 +38,7 @@ pub struct Content {
 }
 
 // A position split by the bits per turn.
-#[derive(Drop)]
+#[derive(Clone, Copy)]
 pub struct Diagnosis {
     // 0, or 11 for a telegram with a bit above N.
     pub refusal: u8,
@@ -47,7 +49,7 @@ pub struct Diagnosis {
 }
 
 // What the builder answers.
-#[derive(Drop)]
+#[derive(Clone, Copy)]
 pub struct Built {
     // 0; 17 for a position of M or more; 18 for an error asked for where no error bit is set up.
     pub refusal: u8,

@@ -1,6 +1,8 @@
 // The state of a panel: the table in force and the live values beside it; its fresh state, a telegram taken, and the result worked out again.
 // Uses `reading` for what a reading is, `switching` for the switches, `driverecord` for the record of the drive, and the error and drive enums of `measurement` and
 // `analog`. It knows no input and no command.
+#![tactic(auto)]
+
 ghost use Rattle.std.specs.Prelude.{cond, ◌≡◌};
 ghost use Rattle.std.specs.Int.Signed.{lt_z};
 ghost use Rattle.state.specs.State.{fresh_of, set_levels, set_basis, set_reading, set_read, set_shown, set_switches, set_driven, set_recorded};
@@ -13,7 +15,7 @@ use reading::{Basis, Reading};
 use switching::Switch;
 
 // The least and the greatest error-free result.
-#[derive(Drop)]
+#[derive(Clone, Copy)]
 pub struct Extremes {
     // Whether there is one.
     pub any: bool,
@@ -22,7 +24,7 @@ pub struct Extremes {
 }
 
 // What events change beside the table.
-#[derive(Drop)]
+#[derive(Clone, Copy)]
 pub struct Live {
     // The levels of the inputs, input 1 the lowest bit.
     pub levels: u8,
@@ -41,7 +43,7 @@ pub struct Live {
     pub switches: [Switch; 4],
 }
 
-#[derive(Drop)]
+#[derive(Clone, Copy)]
 pub struct State {
     // The table in force.
     pub table: [i32; 104],
@@ -49,7 +51,7 @@ pub struct State {
 }
 
 // What an event or a command leaves beside the table.
-#[derive(Drop)]
+#[derive(Clone, Copy)]
 pub struct Outcome {
     pub live: Live,
     // The refusal of the event or of its lowest refused input, 0 for none.

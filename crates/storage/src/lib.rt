@@ -1,5 +1,7 @@
 // Standard input stored to standard output, in pieces of whole groups, so that an input may have any length.
 // Uses `recorder` for what is stored, and `io` and `libc` to read and write.
+#![tactic(auto)]
+
 ghost use Rattle.std.specs.Prelude.{◌≡◌, length};
 
 use libc::{STDIN_FILENO, STDOUT_FILENO};

@@ -1,5 +1,7 @@
 // Switching: the conditions, pulses and locks of the four preselections, and the levels of the outputs.
 // May use integers only; knows plain settings, no slots and no events.
+#![tactic(auto)]
+
 mod condition;
 pub mod output;
 
@@ -7,7 +9,7 @@ ghost use Rattle.std.specs.Prelude.{◌≡◌, ◌-◌, ◌<◌};
 ghost use Rattle.switching.specs.Switching.{fresh_switch, suppresses, released_of, held_of, pulse_of, signal_of, active_of, conditioned_of, locked_of, switched_of, ticked_of, unlocked_of, partner_of, switched_at, all_switched, all_ticked, all_unlocked};
 
 // The settings of one preselection, with P in force.
-#[derive(Drop)]
+#[derive(Clone, Copy)]
 pub struct Preselection {
     // P, the number that the result is compared with.
     pub value: i32,
@@ -28,7 +30,7 @@ pub struct Preselection {
 }
 
 // The state of one preselection.
-#[derive(Drop)]
+#[derive(Clone, Copy)]
 pub struct Switch {
     // What is left of the pulse, in ms.
     pub pulse: u32,

@@ -1,5 +1,7 @@
 // A dialog over standard input and output: lines are read as they come, and each is answered before the next input is waited for.
 // Uses `dialog` for all that is said, `script` for the lines of the input, and `io` and `libc` to read and write.
+#![tactic(auto)]
+
 ghost use Rattle.std.specs.Prelude.{◌≡◌, ◌≤◌, length};
 ghost use Rattle.dialog.specs.Dialog.{Ready, after_line};
 ghost use Rattle.script.specs.Collector.{most, collected};
@@ -11,7 +13,7 @@ use script::collector;
 use script::collector::{Collector, Extent};
 
 // The dialog, and the line that has not ended yet.
-#[derive(Drop)]
+#[derive(Clone, Copy)]
 struct Talk {
     // What is kept between lines.
     console: Console,
@@ -20,7 +22,7 @@ struct Talk {
 }
 
 // What a piece of the input leaves.
-#[derive(Drop)]
+#[derive(Clone, Copy)]
 struct Heard {
     // The dialog after it.
     talk: Talk,

@@ -1,5 +1,7 @@
 // Texts put into a buffer that the caller lends, at a place, with the place behind them as the answer; and texts taken apart.
 // Uses `decimal` for numbers.
+#![tactic(auto)]
+
 ghost use Rattle.std.specs.Prelude.{◌∷◌, [], ◌++◌, ◌+◌, ◌≤◌, length};
 ghost use Rattle.integers.specs.Int.{Within};
 ghost use Rattle.decimal.specs.Decimal.{largest, text_of};
