@@ -1,0 +1,35 @@
+-- `dispatcher::report` meets its contract: 32 unless the address has a panel.
+use mathlib.Core.Path.{◌≡◌, sym, ◌∙◌, ap}
+use mathlib.Core.Bool.{false}
+use native.Mathlib.Omega.{arith}
+use borrow.Author.Rules.{rules}
+use Rattle.dispatcher.specs.declared.Dispatcher.{Dispatcher}
+use Rattle.dispatcher.specs.Dispatch.{outside, answer}
+use Rattle.dispatcher.specs.CallLaws.{in-range, report-outside, report-unknown, report-taken}
+use Rattle.dispatcher.proofs.report.Goals as goal
+
+pub returns-then-is_outside : goal.returns-then-is_outside
+returns-then-is_outside c =
+    let o = c.before.before in
+    let a = o.args in
+    c.refused.ensures ∙ sym (report-outside a.d a.address a.error (sym o.is_outside.ensures ∙ c.if-is_outside.true))
+
+-- behind the first test the address is one
+within : (c : goal.Else-is_outside) → outside c.args.address ≡ false
+within c = sym c.is_outside.ensures ∙ c.if-is_outside.false
+
+pub overflow_cast-a : goal.overflow_cast-a
+overflow_cast-a c = omega (arith, (in-range c.args.address (within c)).1)
+
+pub returns-then-is_present : goal.returns-then-is_present
+returns-then-is_present c =
+    let p = c.before.before in
+    let a = p.args in
+    ap (λ (d : Dispatcher). answer d 0) c.with_report.ensures
+    ∙ sym (report-taken a.d a.address a.error (within p.before) (sym p.is_present.ensures ∙ c.if-is_present.true))
+
+pub returns : goal.returns
+returns c =
+    let p = c.before.before in
+    let a = p.args in
+    c.refused-2.ensures ∙ sym (report-unknown a.d a.address a.error (within p.before) (sym p.is_present.ensures ∙ c.if-is_present.false))

@@ -1,0 +1,19 @@
+-- `registers::start` meets its contract: a node address leads to the load, another to 33.
+use borrow.Author.Rules.{rules}
+use Rattle.state.specs.ValidLaws.{good-fresh}
+use Rattle.parameters.specs.ValidLaws.{defaults-valid}
+use Rattle.registers.specs.Start.{started_of}
+use Rattle.registers.proofs.start.Goals as goal
+
+pub returns-then-is_node : goal.returns-then-is_node
+unfolding started_of
+returns-then-is_node c = let test = c.before in
+    (rw (← test.is_node.ensures, test.if-is_node.true) c.load.ensures.0, c.load.ensures.1)
+
+pub returns : goal.returns
+unfolding started_of
+returns c = let d = c.before in
+    let test = d.before in (
+      rw (← test.is_node.ensures, test.if-is_node.false, c.fresh-s.ensures, d.defaults.ensures),
+      rw (c.fresh-s.ensures, d.defaults.ensures) (good-fresh defaults-valid),
+    )
