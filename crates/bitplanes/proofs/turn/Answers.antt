@@ -14,7 +14,7 @@ use Rattle.bitplanes.proofs.turn.Goals as goal
 pub returns-then-output-n : goal.returns-then-output-n
 returns-then-output-n c =
     let start = c.before.before.before in
-    rw (lt-ltb (length start.args.output-1.now) (length start.args.input.now) (omega arith))
+    rw (lt-ltb (length start.args.output.now) (length start.args.input.now) (omega arith))
 
 pub loop-at-init : goal.loop-at-init
 loop-at-init c = (search rules, search rules, refl, ap (λ (k : ℕ). in_groups 32 turned_group (k / 32) c.copy.new.1.0) (omega arith))
@@ -29,8 +29,8 @@ loop-at-preserved c =
       search rules,
       search rules,
       search rules,
-      at.loop-at.invariant.3 ∙ ap (λ (x : ℕ). take at.loop-at.at at.loop-at.output-1 ++ in_groups 32 turned_group x (drop at.loop-at.at at.loop-at.output-1)) k
-          ∙ group-next 32 turned_group group-keeps at.loop-at.output-1 call.turn_group.new.0 at.loop-at.at ((n - (at.loop-at.at + 32)) / 32) (at.loop-at.at + 32 - at.loop-at.at)
+      at.loop-at.invariant.3 ∙ ap (λ (x : ℕ). take at.loop-at.at at.loop-at.output ++ in_groups 32 turned_group x (drop at.loop-at.at at.loop-at.output)) k
+          ∙ group-next 32 turned_group group-keeps at.loop-at.output call.turn_group.new.0 at.loop-at.at ((n - (at.loop-at.at + 32)) / 32) (at.loop-at.at + 32 - at.loop-at.at)
           (omega arith) (omega arith) call.turn_group.ensures,
     )
 
@@ -41,11 +41,11 @@ returns c =
     let copied = at.before.before.before in
     let start = copied.before.before.before.before.before in
     let ts = start.args.input.now in
-    let old = start.args.output-1.now in
+    let old = start.args.output.now in
     let n = length ts in
     let none : (n - at.loop-at.at) / 32 ≡ 0 = omega arith in
-    let all : at.loop-at.output-1 ≡ turned ts ++ drop n old =
-    sym (take-append-drop at.loop-at.at at.loop-at.output-1)
-    ∙ ap (λ (k : ℕ). take at.loop-at.at at.loop-at.output-1 ++ in_groups 32 turned_group k (drop at.loop-at.at at.loop-at.output-1)) (sym none)
+    let all : at.loop-at.output ≡ turned ts ++ drop n old =
+    sym (take-append-drop at.loop-at.at at.loop-at.output)
+    ∙ ap (λ (k : ℕ). take at.loop-at.at at.loop-at.output ++ in_groups 32 turned_group k (drop at.loop-at.at at.loop-at.output)) (sym none)
     ∙ sym at.loop-at.invariant.3 ∙ ap (in_groups 32 turned_group (n / 32)) copied.copy.ensures ∙ groups-append 32 turned_group (n / 32) ts (drop n old) (omega arith) in
     rw (le-ltb _ _ copied.if-output-n.false) (ap (λ (x : List ℕ). (0, x)) all)

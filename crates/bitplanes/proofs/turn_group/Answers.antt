@@ -36,4 +36,4 @@ returns c =
     by1.exchange-5.ensures
     ∙ ap (exchanged 1)
     (by2.exchange-4.ensures ∙ ap (exchanged 2) (by4.exchange-3.ensures ∙ ap (exchanged 4) (by8.exchange-2.ensures ∙ ap (exchanged 8) by16.exchange.ensures)))
-    ∙ five-rounds start.args.g-1.now start.requires
+    ∙ five-rounds start.args.g.now start.requires

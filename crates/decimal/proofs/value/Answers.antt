@@ -38,7 +38,7 @@ pub overflow_sub-v : goal.overflow_sub-v
 overflow_sub-v c = digit-from _ (digit_at c.before)
 
 pub overflow_cast-v : goal.overflow_cast-v
-overflow_cast-v c = omega (arith, c.shared_slice_known-1.given c.loop-i.i)
+overflow_cast-v c = omega (arith, c.shared-slice-known.given c.loop-i.i)
 
 pub overflow_add-v : goal.overflow_add-v
 overflow_add-v c = omega (arith, next c.before)

@@ -54,7 +54,7 @@ returns-then-z-lt0 c =
     let w = c.write_digits-k in
     let t = text-negative start.args.z (size arm) (size_is arm) (below-zero arm) in (
       rw t (omega (arith, w.ensures.0)),
-      rw t (signed start.args.out-1.now (digits_of (size arm)) w.new.0 w.result (omega arith) w.ensures.1),
+      rw t (signed start.args.out.now (digits_of (size arm)) w.new.0 w.result (omega arith) w.ensures.1),
     )
 
 pub overflow_cast-n-2 : goal.overflow_cast-n-2

@@ -10,16 +10,16 @@ use borrow.Author.Rules.{rules}
 use Rattle.framing.proofs.judge.Goals as goal
 use Rattle.framing.proofs.judge.Tie as tie
 
-room : (s : tie.Start) → s.args.c.length ≤ length s.args.c.bytes-1
+room : (s : tie.Start) → s.args.c.length ≤ length s.args.c.bytes
 room s =
-    let l : length s.args.c.bytes-1 ≡ 257 = search rules in
+    let l : length s.args.c.bytes ≡ 257 = search rules in
     omega (arith, s.requires)
 
 pub slice_bounds-bytes-end : goal.slice_bounds-bytes-end
 slice_bounds-bytes-end c = room c.before
 
 pub foreign-requires : goal.foreign-requires
-foreign-requires c = omega (arith, room c.before.before.before, length-take c.args.c.length c.args.c.bytes-1)
+foreign-requires c = omega (arith, room c.before.before.before, length-take c.args.c.length c.args.c.bytes)
 
 pub returns-then-request : goal.returns-then-request
 unfolding judged stops

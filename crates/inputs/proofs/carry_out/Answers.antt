@@ -18,7 +18,7 @@ teach-requires c = let b = c.before in
 
 pub returns-in-None : goal.returns-in-None
 unfolding carried_out marks_after
-returns-in-None c = let told = c.enum_told-1.given.1 in
+returns-in-None c = let told = c.enum_told.given.1 in
     (rw (told, c.kept.ensures), rw (told, c.kept.ensures))
 
 pub returns-in-Reset : goal.returns-in-Reset

@@ -5,7 +5,7 @@ use Rattle.inputs.proofs.refusal.Goals as goal
 
 pub returns-in-None : goal.returns-in-None
 unfolding refusal_of
-returns-in-None c = rw c.enum_told-1.given.1
+returns-in-None c = rw c.enum_told.given.1
 
 pub returns-in-Reset : goal.returns-in-Reset
 unfolding refusal_of

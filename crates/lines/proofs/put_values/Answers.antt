@@ -22,9 +22,9 @@ pub returns : goal.returns
 unfolding value_fields
 returns c =
     let l = c.args.l in
-    let r = back_at w32 l.reading-1.result c.struct_told-1.given.0.1 in
+    let r = back_at w32 l.reading.result c.struct_told.given.0.1 in
     let s = back_at w32 l.shown c.struct_told-2-1.given.1.1.1.1.0.1 in
     let p1 = rw r at c.put_word-p1.ensures in
     let p2 = rw s at c.put_word-p2.ensures in
     let p3 = rw c.error_number.ensures at c.put_natural.ensures in
-    put_both (put_both p1 p2 (omega (arith, field-at-most-20 l.reading-1.result space))) p3 (omega (arith, fields-at-most-40 l.reading-1.result l.shown space))
+    put_both (put_both p1 p2 (omega (arith, field-at-most-20 l.reading.result space))) p3 (omega (arith, fields-at-most-40 l.reading.result l.shown space))

@@ -11,7 +11,7 @@ returns-then-c-ne0 c =
     let start = c.before.before.before in
     let p = progress_of start.args.t.now start.args.c in
     let e = ne_eqb p.refusal 0 c.if-c-ne0.true in
-    (rw (fed-ended p start.args.w e), (rw (text-ended p start.args.w e) (put-none start.args.out-1.now start.args.at), start.requires.0))
+    (rw (fed-ended p start.args.w e), (rw (text-ended p start.args.w e) (put-none start.args.out.now start.args.at), start.requires.0))
 
 pub returns-in-Happened : goal.returns-in-Happened
 returns-in-Happened c =
@@ -33,9 +33,9 @@ returns-in-Nothing c =
     let w = start.args.w in
     let s = c.take-s in
     let e = eq-eqb p.refusal 0 c.if-c-ne0.false in
-    let f = fed_by p w s.result _ e s.ensures c.enum_told-1.given.1 in
-    let g = text-by p w s.result _ e s.ensures c.enum_told-1.given.1 in
-    (rw (f, c.quiet.ensures), (rw (g, c.quiet.ensures) (put-none start.args.out-1.now start.args.at), rw c.quiet.ensures (record { state = start.requires.0.state; count = start.requires.0.count })))
+    let f = fed_by p w s.result _ e s.ensures c.enum_told.given.1 in
+    let g = text-by p w s.result _ e s.ensures c.enum_told.given.1 in
+    (rw (f, c.quiet.ensures), (rw (g, c.quiet.ensures) (put-none start.args.out.now start.args.at), rw c.quiet.ensures (record { state = start.requires.0.state; count = start.requires.0.count })))
 
 pub returns-in-Refused : goal.returns-in-Refused
 unfolding after_taken text_taken
@@ -47,4 +47,4 @@ returns-in-Refused c =
     let e = eq-eqb p.refusal 0 c.if-c-ne0.false in
     let f = fed_by p w s.result _ e s.ensures c.in-Refused.is in
     let g = text-by p w s.result _ e s.ensures c.in-Refused.is in
-    (rw (f, c.quiet-in-Refused.ensures), (rw (g, c.quiet-in-Refused.ensures) (put-none start.args.out-1.now start.args.at), rw c.quiet-in-Refused.ensures (record { state = start.requires.0.state; count = start.requires.0.count })))
+    (rw (f, c.quiet-in-Refused.ensures), (rw (g, c.quiet-in-Refused.ensures) (put-none start.args.out.now start.args.at), rw c.quiet-in-Refused.ensures (record { state = start.requires.0.state; count = start.requires.0.count })))

@@ -63,20 +63,20 @@ loop-i-preserved c =
     let w = c.take-r in
     let read = c.word_at-w in
     let more : l.i + 4 ≤ length bytes = turn.loop-i-test.true in
-    let p = progress_of l.t l.course-1 in
+    let p = progress_of l.t l.course in
     let m = word-at-most p read.result in
-    let room : l.end + length (word_text p read.result) ≤ length l.out-1 = omega (arith, l.invariant.2, l.invariant.3, start.requires.1) in
+    let room : l.end + length (word_text p read.result) ≤ length l.out = omega (arith, l.invariant.2, l.invariant.3, start.requires.1) in
     let put = w.ensures.1.0 in
-    let f = fed-more p _ bytes l.out-1 _ l.i l.end _ read.result put room w.ensures.0 read.ensures more in
-    let t = text-more p _ bytes l.out-1 _ l.i l.end _ read.result put room w.ensures.0 read.ensures more in
-    let b = behind_more p _ bytes l.out-1 _ l.i l.end _ read.result put room w.ensures.0 read.ensures more in (
+    let f = fed-more p _ bytes l.out _ l.i l.end _ read.result put room w.ensures.0 read.ensures more in
+    let t = text-more p _ bytes l.out _ l.i l.end _ read.result put room w.ensures.0 read.ensures more in
+    let b = behind_more p _ bytes l.out _ l.i l.end _ read.result put room w.ensures.0 read.ensures more in (
       more,
       w.ensures.1.1,
       omega (arith, put.ends, l.invariant.2),
       put-length put room ∙ l.invariant.3,
       l.invariant.4 ∙ f,
       l.invariant.5 ∙ t,
-      b start.args.out-1.now l.invariant.6,
+      b start.args.out.now l.invariant.6,
     )
 
 pub shape_of-out : goal.shape_of-out
@@ -87,6 +87,6 @@ returns c =
     let l = c.loop-i in
     let args = c.args in
     let bytes = args.bytes.now in
-    let p = progress_of l.t l.course-1 in
-    let all : words_text (progress_of args.t.now args.c) (words_in bytes) ≡ take l.end l.out-1 = rw (text-done p bytes l.i c.loop-i-test.false, append-nil) at l.invariant.5 in
-    (sym (l.invariant.4 ∙ fed-done p bytes l.i c.loop-i-test.false), (all-put args.out-1.now l.out-1 _ l.end all l.invariant.6 (omega arith), (l.invariant.1, omega arith)))
+    let p = progress_of l.t l.course in
+    let all : words_text (progress_of args.t.now args.c) (words_in bytes) ≡ take l.end l.out = rw (text-done p bytes l.i c.loop-i-test.false, append-nil) at l.invariant.5 in
+    (sym (l.invariant.4 ∙ fed-done p bytes l.i c.loop-i-test.false), (all-put args.out.now l.out _ l.end all l.invariant.6 (omega arith), (l.invariant.1, omega arith)))

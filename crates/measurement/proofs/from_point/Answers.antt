@@ -34,14 +34,14 @@ bounds-points-k c = let h = here c.before in search rules
 
 pub overflow_cast-points : goal.overflow_cast-points
 overflow_cast-points c =
-    let f : SFits w32 (get_or c.args.points.now (2 * c.args.i + 1) (pos 0)) = record { sfits = c.whole-arg-1.given } in
+    let f : SFits w32 (get_or c.args.points.now (2 * c.args.i + 1) (pos 0)) = record { sfits = c.whole-arg.given } in
     omega (arith, ints)
 
 pub returns-then-i-n : goal.returns-then-i-n
 returns-then-i-n c =
     let s = c.before.before.before in
     let ws = s.args.points.now in
-    let e = rw (to_z-of_z (overflow_cast-points c.before), back_at w32 (get_or ws (2 * s.args.i + 1) (pos 0)) c.whole-arg-1.given) at c.whole.ensures in
+    let e = rw (to_z-of_z (overflow_cast-points c.before), back_at w32 (get_or ws (2 * s.args.i + 1) (pos 0)) c.whole-arg.given) at c.whole.ensures in
     e ∙ ap rounded (sym (value-last s.requires.0 s.args.v s.args.i s.requires.1 c.if-i-n.true))
 
 more : (c : goal.Else-i-n) → c.args.i + 1 < c.args.n
@@ -89,7 +89,7 @@ on_line-requires c =
     let i = s.args.i in
     let ws = s.args.points.now in
     rw (
-      back_at w32 (get_or ws (2 * i) (pos 0)) c.on_line-arg-1.given,
+      back_at w32 (get_or ws (2 * i) (pos 0)) c.on-line-arg.given,
       back_at w32 (get_or ws (2 * i + 1) (pos 0)) c.on_line-arg-2-1.given,
       back_at w32 (get_or ws (2 * i + 2) (pos 0)) c.on_line-arg-3-1.given,
       back_at w32 (get_or ws (2 * i + 3) (pos 0)) c.on_line-arg-4-1.given,
@@ -104,7 +104,7 @@ returns c =
     let i = s.args.i in
     let ws = s.args.points.now in
     let e = rw (
-      back_at w32 (get_or ws (2 * i) (pos 0)) b.on_line-arg-1.given,
+      back_at w32 (get_or ws (2 * i) (pos 0)) b.on-line-arg.given,
       back_at w32 (get_or ws (2 * i + 1) (pos 0)) b.on_line-arg-2-1.given,
       back_at w32 (get_or ws (2 * i + 2) (pos 0)) b.on_line-arg-3-1.given,
       back_at w32 (get_or ws (2 * i + 3) (pos 0)) b.on_line-arg-4-1.given,

@@ -9,7 +9,7 @@ use Rattle.measurement.proofs.x_of.Goals as goal
 
 -- the word that is read fits 32 bits
 fits : (c : goal.After-result-1) → SFits w32 (point_at c.args.points.now c.args.i).x
-fits c = record { sfits = c.result-1.given }
+fits c = record { sfits = c.result.given }
 
 pub overflow_cast-result : goal.overflow_cast-result
 overflow_cast-result c = sfits_widen {w = w32} tt (again (fits c))

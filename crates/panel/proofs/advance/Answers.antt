@@ -21,7 +21,7 @@ promised : (s : State) (e : Event) (r : Answer) → Good s → r ≡ step_of s e
 promised s e r g is = (is, subst (λ (a : Answer). Good a.state) (sym is) (good-step g e))
 
 -- an event with which switching and display follow
-ended : (t : List ℤ) (b : Begun) (l : Live) (a : Answer) → b.settles ≡ true → state_of t l ≡ settled_of (state_of t b.live-1) → answer_after t b ≡ a →
+ended : (t : List ℤ) (b : Begun) (l : Live) (a : Answer) → b.settles ≡ true → state_of t l ≡ settled_of (state_of t b.live) → answer_after t b ≡ a →
     answer_of (state_of t l) b.note b.halves ≡ a
 ended t b l a on s e = ap (λ (x : State). answer_of x b.note b.halves) s ∙ (rw on at e)
 

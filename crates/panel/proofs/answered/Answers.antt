@@ -10,6 +10,6 @@ pub returns : goal.returns
 unfolding answer_of
 returns c = let b = c.before.before.before in
     let l = b.args.t1.live in
-    let r : bk w32 l.reading-1.result ≡ l.reading-1.result = search rules in
+    let r : bk w32 l.reading.result ≡ l.reading.result = search rules in
     let d : bk w32 l.shown ≡ l.shown = search rules in
     rw (r, d, b.outputs-levels.ensures)

@@ -33,12 +33,12 @@ loop-i-smaller c = omega arith
 pub loop-i-preserved : goal.loop-i-preserved
 loop-i-preserved c = let l = c.loop-i in
     let s = c.args.words.now in
-    rw (to_z-of_z {w = w32} (record { sfits = c.t-1.given })) (
+    rw (to_z-of_z {w = w32} (record { sfits = c.t.given })) (
       omega arith,
-      length-set l.t-1 l.i (get_or s l.i (pos 0)) ∙ l.invariant.1,
-      copy_more l.t-1 s l.i (pos 0) (get_or s l.i (pos 0)) (omega arith) (omega arith) l.invariant.2 refl,
+      length-set l.t l.i (get_or s l.i (pos 0)) ∙ l.invariant.1,
+      copy_more l.t s l.i (pos 0) (get_or s l.i (pos 0)) (omega arith) (omega arith) l.invariant.2 refl,
     )
 
 pub returns : goal.returns
 returns c = let l = c.loop-i in
-    copy-all l.t-1 c.args.words.now l.i (omega arith) (omega arith) l.invariant.2
+    copy-all l.t c.args.words.now l.i (omega arith) (omega arith) l.invariant.2

@@ -7,7 +7,7 @@ use Rattle.poll_dialog.proofs.done.Goals as goal
 pub returns-in-Blank : goal.returns-in-Blank
 unfolding after_asked asked_text
 returns-in-Blank c =
-    let told = c.enum_told-1.given.1 in
+    let told = c.enum_told.given.1 in
     (rw told, rw told (put-none _ 0))
 
 pub returns-in-Wrong : goal.returns-in-Wrong

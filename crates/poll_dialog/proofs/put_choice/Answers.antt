@@ -14,4 +14,4 @@ pub returns-in-Nobody : goal.returns-in-Nobody
 unfolding choice_line spoken
 returns-in-Nobody c =
     let x = c.before.before in
-    rw x.enum_told-1.given.1 x.put_bytes.ensures
+    rw x.enum_told.given.1 x.put_bytes.ensures

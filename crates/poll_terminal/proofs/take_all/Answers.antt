@@ -47,10 +47,10 @@ loop-i-preserved c =
     let turn = push.before.before.before in
     let l = turn.loop-i in
     let bytes = turn.args.bytes.now in
-    let one = talked-by after_line l.d-1 c.take-d.result (collected l.held-1 l.x) (collected push.push-x.new.0 push.push-x.result) _ push.push-x.ensures c.take-d.ensures in (
+    let one = talked-by after_line l.d c.take-d.result (collected l.held l.x) (collected push.push-x.new.0 push.push-x.result) _ push.push-x.ensures c.take-d.ensures in (
       omega (arith, turn.loop-i-test.true),
       whole push,
-      l.invariant.2 ∙ talked-more after_line (l.d-1, collected l.held-1 l.x) bytes l.i turn.loop-i-test.true ∙ ap (λ (t : Dispatcher × Collector). talked_all after_line t (drop (l.i + 1) bytes)) (sym one),
+      l.invariant.2 ∙ talked-more after_line (l.d, collected l.held l.x) bytes l.i turn.loop-i-test.true ∙ ap (λ (t : Dispatcher × Collector). talked_all after_line t (drop (l.i + 1) bytes)) (sym one),
     )
 
 pub returns : goal.returns

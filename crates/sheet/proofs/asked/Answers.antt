@@ -7,7 +7,7 @@ use borrow.Author.Rules.{rules}
 use Rattle.sheet.proofs.asked.Goals as goal
 
 pub answer-requires : goal.answer-requires
-answer-requires c = let s = c.before.before.before.before.before.before.before.before.before.before.before in (rw c.in_force-table.ensures s.requires.0.state.table-1, omega arith)
+answer-requires c = let s = c.before.before.before.before.before.before.before.before.before.before.before in (rw c.in_force-table.ensures s.requires.0.state.table, omega arith)
 
 pub returns-in-Count : goal.returns-in-Count
 unfolding asked_text
@@ -27,4 +27,4 @@ returns-in-Missing c =
     let n = known.before.before in
     let s = n.before.before.before.before.before in
     let e : n.natural-n.result ≡ number_behind s.args.line.now = rw (n.natural-n.ensures, n.only.ensures, n.rest.ensures, others-of s.args.line.now) in
-    rw (← e, known.enum_told-1.given.1) w.wrong.ensures
+    rw (← e, known.enum_told.given.1) w.wrong.ensures

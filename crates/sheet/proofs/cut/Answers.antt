@@ -23,4 +23,4 @@ returns-in-Missing c =
     let n = known.before.before in
     let s = n.before.before.before.before.before in
     let e : n.natural-n.result ≡ number_behind s.args.line.now = rw (n.natural-n.ensures, n.only.ensures, n.rest.ensures, others-of s.args.line.now) in
-    (rw (← e, known.enum_told-1.given.1), rw (← e, known.enum_told-1.given.1) w.wrong.ensures)
+    (rw (← e, known.enum_told.given.1), rw (← e, known.enum_told.given.1) w.wrong.ensures)

@@ -7,7 +7,7 @@ pub returns-in-Plain : goal.returns-in-Plain
 unfolding after_word word_text
 returns-in-Plain c =
     let x = c.before.before in
-    let told = x.enum_told-1.given.1 in
+    let told = x.enum_told.given.1 in
     (rw told x.plain.ensures.0, rw told x.plain.ensures.1)
 
 pub returns-in-Heading : goal.returns-in-Heading

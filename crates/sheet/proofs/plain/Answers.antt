@@ -10,7 +10,7 @@ use Rattle.sheet.proofs.plain.Goals as goal
 pub returns-in-Blank : goal.returns-in-Blank
 unfolding after_plain plain_text
 returns-in-Blank c =
-    let told = rw c.read-command.ensures at c.enum_told-1.given.1 in
+    let told = rw c.read-command.ensures at c.enum_told.given.1 in
     (rw told, rw told (put-none _ 0))
 
 pub returns-in-Slot : goal.returns-in-Slot

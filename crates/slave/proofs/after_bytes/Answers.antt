@@ -6,13 +6,13 @@ use Rattle.framing.specs.Collector.{pushed, fed_to}
 use Rattle.framing.specs.PieceLaws.{fed-next, next-on}
 use Rattle.slave.proofs.after_bytes.Goals as goal
 
-past : (node : ℕ) (c : Collector) (l : List ℕ) (i : ℕ) → i < length l → i < (fed_to node c (drop i l) i).next-1
+past : (node : ℕ) (c : Collector) (l : List ℕ) (i : ℕ) → i < length l → i < (fed_to node c (drop i l) i).next
 past node c l i h = rw (fed-next node c l i h) (by d.ended)
   where
     d : Collector
     d = pushed node c (get_or l i 0)
 
-    by : (t : Bool) → i < (cond t (record { collector = d; next = i + 1 }) (fed_to node d (drop (i + 1) l) (i + 1))).next-1
+    by : (t : Bool) → i < (cond t (record { collector = d; next = i + 1 }) (fed_to node d (drop (i + 1) l) (i + 1))).next
     by true = omega arith
     by false = omega (arith, next-on node d (drop (i + 1) l) (i + 1))
 
@@ -21,5 +21,5 @@ loop-at-smaller c =
     let feed = c.feed-f in
     let l = c.loop-at in
     let s = c.before.before.before.before.before.before.before in
-    let further : l.at < feed.result.next-1 = rw feed.ensures (past l.y.node l.y.line-1 s.args.bytes.now l.at (omega arith)) in
+    let further : l.at < feed.result.next = rw feed.ensures (past l.y.node l.y.line s.args.bytes.now l.at (omega arith)) in
     omega arith

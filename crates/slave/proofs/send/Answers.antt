@@ -4,5 +4,5 @@ use Rattle.slave.proofs.send.Goals as goal
 
 pub slice_bounds-bytes-end : goal.slice_bounds-bytes-end
 slice_bounds-bytes-end c =
-    let n : length c.args.reply.bytes-1 ≡ 9 = search rules in
+    let n : length c.args.reply.bytes ≡ 9 = search rules in
     omega arith

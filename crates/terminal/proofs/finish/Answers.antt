@@ -9,5 +9,5 @@ use Rattle.terminal.proofs.finish.Goals as goal
 pub answer-requires : goal.answer-requires
 answer-requires c =
     let s = c.before.before.before.before.before.before.before in
-    let n : length s.args.t.collector.bytes-1 ≡ most = search rules in
+    let n : length s.args.t.collector.bytes ≡ most = search rules in
     (s.requires, omega arith)

@@ -47,11 +47,11 @@ loop-i-preserved c =
     let turn = push.before.before.before in
     let l = turn.loop-i in
     let bytes = turn.args.bytes.now in
-    let one = talked-by after_line l.c-1 c.take-c.result (collected l.held-1 l.x) (collected push.push-x.new.0 push.push-x.result) _ push.push-x.ensures c.take-c.ensures.0 in (
+    let one = talked-by after_line l.c c.take-c.result (collected l.held l.x) (collected push.push-x.new.0 push.push-x.result) _ push.push-x.ensures c.take-c.ensures.0 in (
       c.take-c.ensures.1,
       omega (arith, turn.loop-i-test.true),
       whole push,
-      l.invariant.3 ∙ talked-more after_line (l.c-1, collected l.held-1 l.x) bytes l.i turn.loop-i-test.true ∙ ap (λ (t : Console × Collector). talked_all after_line t (drop (l.i + 1) bytes)) (sym one),
+      l.invariant.3 ∙ talked-more after_line (l.c, collected l.held l.x) bytes l.i turn.loop-i-test.true ∙ ap (λ (t : Console × Collector). talked_all after_line t (drop (l.i + 1) bytes)) (sym one),
     )
 
 pub returns : goal.returns

@@ -16,7 +16,7 @@ written : (c : goal.After-slice_known-2-1) → c.write-n.result ≡ length (text
 written c = rw (to_z-of_z {w = w64} c.ranges.z) at c.write-n.ensures.0
 
 -- they fit, and one more
-fitting : (c : goal.After-slice_known-2-1) → c.args.at + c.write-n.result < length c.args.out-1.now
+fitting : (c : goal.After-slice_known-2-1) → c.args.at + c.write-n.result < length c.args.out.now
 fitting c = omega (arith, written c, text-at-most-19 c.args.z)
 
 pub overflow_add-end : goal.overflow_add-end
@@ -36,6 +36,6 @@ returns c =
     record {
       ends = rw length-append (omega (arith, written c));
       holds =
-          number_put args.out-1.now (text_of args.z) w.new.0 args.at w.result args.after (written c) (fitting c)
+          number_put args.out.now (text_of args.z) w.new.0 args.at w.result args.after (written c) (fitting c)
           (rw (to_z-of_z {w = w64} start.ranges.z) at w.ensures.1);
     }

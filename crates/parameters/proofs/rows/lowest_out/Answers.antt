@@ -27,7 +27,7 @@ bounds-t-i c = omega arith
 
 -- what the call answers is the test of the slot's word
 looked : (c : tie.After-in_range-fits) → in_range c.loop-i.i (get_or c.args.t1 c.loop-i.i (pos 0)) ≡ c.in_range-fits.result
-looked c = ap (in_range c.loop-i.i) (sym (to_z-of_z {w = w32} (record { sfits = c.in_range-arg-1.given }))) ∙ sym c.in_range-fits.ensures
+looked c = ap (in_range c.loop-i.i) (sym (to_z-of_z {w = w32} (record { sfits = c.in-range-arg.given }))) ∙ sym c.in_range-fits.ensures
 
 pub returns-then-not-fits : goal.returns-then-not-fits
 returns-then-not-fits c = let s = c.before.before.before.before.before in

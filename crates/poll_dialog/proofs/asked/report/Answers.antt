@@ -16,7 +16,7 @@ unfolding report_in
 returns-in-Missing-v c =
     let n = c.before.before.before in
     let s = n.before.before in
-    rw (first-of _, ← s.word.ensures, ← s.natural-n.ensures, n.in-Count.is, others-of _, ← s.rest.ensures, ← s.only.ensures, ← s.natural-v.ensures, c.enum_told-1.given.1)
+    rw (first-of _, ← s.word.ensures, ← s.natural-n.ensures, n.in-Count.is, others-of _, ← s.rest.ensures, ← s.only.ensures, ← s.natural-v.ensures, c.enum_told.given.1)
 
 pub returns-in-Missing : goal.returns-in-Missing
 unfolding report_in

@@ -16,25 +16,25 @@ loop-t-init c = left-all _ _ _ _ c.requires
 pub returns-then-w-eq0 : goal.returns-then-w-eq0
 returns-then-w-eq0 c =
     let l = c.loop-t in
-    bytes_packed _ l.n l.bytes l.t-1.now l.invariant (sym (ap length c.word-w.ensures) ∙ c.if-w-eq0.true)
+    bytes_packed _ l.n l.bytes l.t.now l.invariant (sym (ap length c.word-w.ensures) ∙ c.if-w-eq0.true)
 
 pub byte-requires : goal.byte-requires
 byte-requires c =
     let l = c.loop-t in
     let w = c.if-w-eq0.false in
-    rw c.word-w.ensures (left-hex _ _ _ _ l.n l.bytes l.t-1.now l.invariant (omega (arith, ap length c.word-w.ensures)))
+    rw c.word-w.ensures (left-hex _ _ _ _ l.n l.bytes l.t.now l.invariant (omega (arith, ap length c.word-w.ensures)))
 
 pub bounds-bytes-n : goal.bounds-bytes-n
 bounds-bytes-n c =
     let l = c.loop-t in
     let w = c.if-w-eq0.false in
-    left-room _ _ _ _ l.n l.bytes l.t-1.now l.invariant (omega (arith, ap length c.word-w.ensures))
+    left-room _ _ _ _ l.n l.bytes l.t.now l.invariant (omega (arith, ap length c.word-w.ensures))
 
 pub overflow_add-n : goal.overflow_add-n
 overflow_add-n c = omega (arith, bounds-bytes-n c)
 
 pub overflow_sub-k : goal.overflow_sub-k
-overflow_sub-k c = rw c.rest-r.ensures (rest-within c.loop-t.t-1.now)
+overflow_sub-k c = rw c.rest-r.ensures (rest-within c.loop-t.t.now)
 
 pub slice_bounds-t-count : goal.slice_bounds-t-count
 slice_bounds-t-count c = omega arith
@@ -46,13 +46,13 @@ pub loop-t-smaller : goal.loop-t-smaller
 loop-t-smaller c =
     let l = c.loop-t in
     let w = c.if-w-eq0.false in
-    rw (go_on l.t-1.now c.rest-r.result.now c.rest-r.ensures)
-    (rest-shorter l.t-1.now (omega (arith, ap length c.word-w.ensures)))
+    rw (go_on l.t.now c.rest-r.result.now c.rest-r.ensures)
+    (rest-shorter l.t.now (omega (arith, ap length c.word-w.ensures)))
 
 pub loop-t-preserved : goal.loop-t-preserved
 loop-t-preserved c =
     let l = c.loop-t in
     let w = c.if-w-eq0.false in
     let f = c.word-w.ensures in
-    rw (go_on l.t-1.now c.rest-r.result.now c.rest-r.ensures, c.byte.ensures, f)
-    (left-next _ _ _ _ l.n l.bytes l.t-1.now l.invariant (omega (arith, ap length f)))
+    rw (go_on l.t.now c.rest-r.result.now c.rest-r.ensures, c.byte.ensures, f)
+    (left-next _ _ _ _ l.n l.bytes l.t.now l.invariant (omega (arith, ap length f)))

@@ -16,22 +16,22 @@ shape_of-out-then-w-eq0 c = c.loop-t.invariant.size
 pub returns-then-w-eq0 : goal.returns-then-w-eq0
 returns-then-w-eq0 c =
     let l = c.loop-t in
-    left-none _ _ _ _ l.t-1.now l.invariant c.requires.0 (sym (ap length c.word-w.ensures) ∙ c.if-w-eq0.true)
+    left-none _ _ _ _ l.t.now l.invariant c.requires.0 (sym (ap length c.word-w.ensures) ∙ c.if-w-eq0.true)
 
 pub value-requires : goal.value-requires
 value-requires c =
     let l = c.loop-t in
     let w = c.if-w-eq0.false in
-    rw c.word-w.ensures (left-hex _ _ _ _ l.t-1.now l.invariant c.requires.0 (omega (arith, ap length c.word-w.ensures)))
+    rw c.word-w.ensures (left-hex _ _ _ _ l.t.now l.invariant c.requires.0 (omega (arith, ap length c.word-w.ensures)))
 
 pub put_word-p-requires : goal.put_word-p-requires
 put_word-p-requires c =
     let l = c.loop-t in
     let w = c.if-w-eq0.false in
-    left-room _ _ _ _ l.t-1.now l.invariant c.requires.0 (omega (arith, ap length c.word-w.ensures))
+    left-room _ _ _ _ l.t.now l.invariant c.requires.0 (omega (arith, ap length c.word-w.ensures))
 
 pub overflow_sub-k : goal.overflow_sub-k
-overflow_sub-k c = rw c.rest-r.ensures (rest-within c.loop-t.t-1.now)
+overflow_sub-k c = rw c.rest-r.ensures (rest-within c.loop-t.t.now)
 
 pub slice_bounds-t-count : goal.slice_bounds-t-count
 slice_bounds-t-count c = omega arith
@@ -43,7 +43,7 @@ pub loop-t-smaller : goal.loop-t-smaller
 loop-t-smaller c =
     let l = c.loop-t in
     let w = c.if-w-eq0.false in
-    rw (go_on l.t-1.now c.rest-r.result.now c.rest-r.ensures) (rest-shorter l.t-1.now (omega (arith, ap length c.word-w.ensures)))
+    rw (go_on l.t.now c.rest-r.result.now c.rest-r.ensures) (rest-shorter l.t.now (omega (arith, ap length c.word-w.ensures)))
 
 pub loop-t-preserved : goal.loop-t-preserved
 loop-t-preserved c =
@@ -51,4 +51,4 @@ loop-t-preserved c =
     let w = c.if-w-eq0.false in
     let f = c.word-w.ensures in
     let p = rw (c.value.ensures, f) at c.put_word-p.ensures in
-    rw (go_on l.t-1.now c.rest-r.result.now c.rest-r.ensures) (left-next _ _ _ _ l.t-1.now l.invariant c.requires.0 (omega (arith, ap length f)) p)
+    rw (go_on l.t.now c.rest-r.result.now c.rest-r.ensures) (left-next _ _ _ _ l.t.now l.invariant c.requires.0 (omega (arith, ap length f)) p)

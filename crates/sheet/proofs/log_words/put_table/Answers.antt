@@ -44,7 +44,7 @@ loop-k-preserved c =
     let p = w.put_word-p.ensures in
     let k : length (take l.k t) ≡ l.k = length-take-le l.k t (omega arith) in
     let n = table-length (take l.k t) in
-    let e : w.bits.result ≡ bits_of (get_or t l.k (pos 0)) = w.bits.ensures ∙ ap bits_of (back_at w32 (get_or t l.k (pos 0)) w.bits-arg-1.given) in (
+    let e : w.bits.result ≡ bits_of (get_or t l.k (pos 0)) = w.bits.ensures ∙ ap bits_of (back_at w32 (get_or t l.k (pos 0)) w.bits-arg.given) in (
       omega arith,
       put-length p (omega arith) ∙ l.invariant.1,
       omega (arith, p.ends),

@@ -11,4 +11,4 @@ returns c =
     let put = c.before.before in
     let read = put.before.before.before in
     let start = read.before.before in
-    subst (λ (l : List ℕ). Put start.args.out-1.now start.args.at l put.put_bytes.result put.put_bytes.new.0) read.bytes_of-bytes.ensures put.put_bytes.ensures
+    subst (λ (l : List ℕ). Put start.args.out.now start.args.at l put.put_bytes.result put.put_bytes.new.0) read.bytes_of-bytes.ensures put.put_bytes.ensures

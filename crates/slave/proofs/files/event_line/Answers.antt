@@ -32,7 +32,7 @@ others s Frame k = refl
 
 pub returns-in-Blank : goal.returns-in-Blank
 unfolding stepped_of
-returns-in-Blank c = (rw c.enum_told-1.given.1 c.kept.ensures, subst (λ (r : Stepped). Good r.state) (sym c.kept.ensures) c.requires)
+returns-in-Blank c = (rw c.enum_told.given.1 c.kept.ensures, subst (λ (r : Stepped). Good r.state) (sym c.kept.ensures) c.requires)
 
 pub returns-in-Telegram : goal.returns-in-Telegram
 unfolding stepped_of
@@ -50,4 +50,4 @@ pub returns-in_default : goal.returns-in_default
 returns-in_default c =
     let s = c.before.before in
     let is = c.kept-in_default.ensures in
-    (is ∙ others s.args.s s.args.c-1 c.match.keys5, subst (λ (r : Stepped). Good r.state) (sym is) s.requires)
+    (is ∙ others s.args.s s.args.c c.match.keys5, subst (λ (r : Stepped). Good r.state) (sym is) s.requires)

@@ -6,7 +6,7 @@ use Rattle.slave.proofs.files.frame.Goals as goal
 use Rattle.slave.proofs.files.frame.Tie as tie
 
 -- the bytes held are as many as the collector has room for
-room : (s : tie.Start) → length s.args.line.bytes-1 ≡ 257
+room : (s : tie.Start) → length s.args.line.bytes ≡ 257
 room s = search rules
 
 pub slice_bounds-bytes-end : goal.slice_bounds-bytes-end

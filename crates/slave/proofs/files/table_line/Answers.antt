@@ -30,14 +30,14 @@ others t Frame k = refl
 
 pub returns-in-Blank : goal.returns-in-Blank
 unfolding listed_of
-returns-in-Blank c = rw c.enum_told-1.given.1
+returns-in-Blank c = rw c.enum_told.given.1
 
 pub returns-in-Slot : goal.returns-in-Slot
 unfolding listed_of
 returns-in-Slot c =
-    let asked = c.c-1 in
+    let asked = c.c in
     let z : bk w32 asked.given.0.1.0 ≡ asked.given.0.1.0 = search rules in
     rw (asked.given.1, c.changed.ensures, z)
 
 pub returns-in_default : goal.returns-in_default
-returns-in_default c = others c.args.t c.args.c-1 c.match.keys3
+returns-in_default c = others c.args.t c.args.c c.match.keys3

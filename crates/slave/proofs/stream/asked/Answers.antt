@@ -5,5 +5,5 @@ use Rattle.slave.proofs.stream.asked.Goals as goal
 
 pub asked-requires : goal.asked-requires
 asked-requires c =
-    let n : length c.args.line.bytes-1 ≡ most = search rules in
+    let n : length c.args.line.bytes ≡ most = search rules in
     omega arith

@@ -6,11 +6,11 @@ use borrow.Author.Rules.{rules}
 use Rattle.text.proofs.words.rest.Goals as goal
 
 pub slice_bounds-result-count : goal.slice_bounds-result-count
-slice_bounds-result-count c = rw c.word_length-n.ensures (word-within c.unspaced-t.result-1.now)
+slice_bounds-result-count c = rw c.word_length-n.ensures (word-within c.unspaced-t.result.now)
 
 pub slice_bounds-result-start : goal.slice_bounds-result-start
 slice_bounds-result-start c = slice_bounds-result-count c
 
 pub returns : goal.returns
 unfolding rest_of
-returns c = rw (part-all c.unspaced-t.result-1.now c.word_length-n.result-1, c.word_length-n.ensures, c.unspaced-t.ensures)
+returns c = rw (part-all c.unspaced-t.result.now c.word_length-n.result, c.word_length-n.ensures, c.unspaced-t.ensures)

@@ -14,23 +14,23 @@ loop-x-init c = refl
 pub returns-then-y-eq0 : goal.returns-then-y-eq0
 returns-then-y-eq0 c =
     let l = c.loop-x in
-    sym (same-short l.x-1.now l.y-1.now c.loop-x-test.true c.if-y-eq0.true) ∙ l.invariant
+    sym (same-short l.x.now l.y.now c.loop-x-test.true c.if-y-eq0.true) ∙ l.invariant
 
 pub returns-then-x-y : goal.returns-then-x-y
 returns-then-x-y c =
     let l = c.loop-x in
-    sym (same-other l.x-1.now l.y-1.now c.loop-x-test.true c.if-y-eq0.false c.if-x-y.true) ∙ l.invariant
+    sym (same-other l.x.now l.y.now c.loop-x-test.true c.if-y-eq0.false c.if-x-y.true) ∙ l.invariant
 
 pub loop-x-smaller : goal.loop-x-smaller
 loop-x-smaller c =
-    let s = c.loop-x.x-1.now in
+    let s = c.loop-x.x.now in
     rw (part-all s 1, length-drop 1 s) (omega (arith, c.loop-x-test.true))
 
 pub loop-x-preserved : goal.loop-x-preserved
 loop-x-preserved c =
     let l = c.loop-x in
-    rw (part-all l.x-1.now 1, part-all l.y-1.now 1)
-    (same_next l.x-1.now l.y-1.now c.loop-x-test.true c.if-y-eq0.false c.if-x-y.false ∙ l.invariant)
+    rw (part-all l.x.now 1, part-all l.y.now 1)
+    (same_next l.x.now l.y.now c.loop-x-test.true c.if-y-eq0.false c.if-x-y.false ∙ l.invariant)
 
 pub returns : goal.returns
-returns c = sym (same_end c.loop-x.x-1.now c.loop-x.y-1.now c.loop-x-test.false) ∙ c.loop-x.invariant
+returns c = sym (same_end c.loop-x.x.now c.loop-x.y.now c.loop-x-test.false) ∙ c.loop-x.invariant
