@@ -16,35 +16,55 @@ unfolding lowest_from
 returns-then-above-ge255 c = let n : 255 - c.args.above ≡ 0 = omega arith in rw n
 
 pub loop-at-init : goal.loop-at-init
-loop-at-init c =
-    let n : 255 - c.args.above ≡ 256 - (c.args.above + 1) = omega arith in
+loop-at-init c = let n : 255 - c.args.above ≡ 256 - (c.args.above + 1) = omega arith in
     (omega arith, rw (n, add-one))
 
 pub word_at-requires : goal.word_at-requires
 word_at-requires c = omega arith
 
--- what is left of a word that has a bit set: the lowest is found, and stands in this word
-found : (c : goal.Then-rest-ne0) →
-    let l = c.loop-at in
+pub overflow_cast-zeros : goal.overflow_cast-zeros
+overflow_cast-zeros c =
+    let found : let l = c.loop-at in
     let zeros = count_trailing_zeros 64 (c.word_at.result / 2 ^ (l.at % 64)) in
-    (lowest_from (holds c.args.words) l.at (256 - l.at) ≡ l.at + zeros) × (zeros < 64 - l.at % 64)
-found c =
+    (lowest_from (holds c.args.words) l.at (256 - l.at) ≡ l.at + zeros) × (zeros < 64 - l.at % 64) =
     let w = c.word_at in
     let l = c.loop-at in
     let small : w.result < 2 ^ 64 = search rules in
-    rw w.ensures (rest_some c.args.words l.at (omega arith) (omega (arith, w.ensures)) (rw w.ensures at c.if-rest-ne0.true))
-
-pub overflow_cast-zeros : goal.overflow_cast-zeros
-overflow_cast-zeros c = omega (arith, (found c).1)
+    rw w.ensures (rest_some c.args.words l.at (omega arith) (omega (arith, w.ensures)) (rw w.ensures at c.if-rest-ne0.true)) in
+    omega (arith, (found).1)
 
 pub overflow_add-result : goal.overflow_add-result
-overflow_add-result c = omega (arith, (found c).1)
+overflow_add-result c =
+    let found : let l = c.loop-at in
+    let zeros = count_trailing_zeros 64 (c.word_at.result / 2 ^ (l.at % 64)) in
+    (lowest_from (holds c.args.words) l.at (256 - l.at) ≡ l.at + zeros) × (zeros < 64 - l.at % 64) =
+    let w = c.word_at in
+    let l = c.loop-at in
+    let small : w.result < 2 ^ 64 = search rules in
+    rw w.ensures (rest_some c.args.words l.at (omega arith) (omega (arith, w.ensures)) (rw w.ensures at c.if-rest-ne0.true)) in
+    omega (arith, (found).1)
 
 pub overflow_cast-result : goal.overflow_cast-result
-overflow_cast-result c = omega (arith, (found c).1)
+overflow_cast-result c =
+    let found : let l = c.loop-at in
+    let zeros = count_trailing_zeros 64 (c.word_at.result / 2 ^ (l.at % 64)) in
+    (lowest_from (holds c.args.words) l.at (256 - l.at) ≡ l.at + zeros) × (zeros < 64 - l.at % 64) =
+    let w = c.word_at in
+    let l = c.loop-at in
+    let small : w.result < 2 ^ 64 = search rules in
+    rw w.ensures (rest_some c.args.words l.at (omega arith) (omega (arith, w.ensures)) (rw w.ensures at c.if-rest-ne0.true)) in
+    omega (arith, (found).1)
 
 pub returns-then-rest-ne0 : goal.returns-then-rest-ne0
-returns-then-rest-ne0 c = sym (c.loop-at.invariant.1 ∙ (found c).0)
+returns-then-rest-ne0 c =
+    let found : let l = c.loop-at in
+    let zeros = count_trailing_zeros 64 (c.word_at.result / 2 ^ (l.at % 64)) in
+    (lowest_from (holds c.args.words) l.at (256 - l.at) ≡ l.at + zeros) × (zeros < 64 - l.at % 64) =
+    let w = c.word_at in
+    let l = c.loop-at in
+    let small : w.result < 2 ^ 64 = search rules in
+    rw w.ensures (rest_some c.args.words l.at (omega arith) (omega (arith, w.ensures)) (rw w.ensures at c.if-rest-ne0.true)) in
+    sym (c.loop-at.invariant.1 ∙ (found).0)
 
 pub overflow_add-at-in-loop-at : goal.overflow_add-at-in-loop-at
 overflow_add-at-in-loop-at c = omega arith
@@ -56,14 +76,12 @@ pub loop-at-smaller : goal.loop-at-smaller
 loop-at-smaller c = omega arith
 
 pub loop-at-preserved : goal.loop-at-preserved
-loop-at-preserved c =
-    let w = c.word_at in
+loop-at-preserved c = let w = c.word_at in
     let l = c.loop-at in
     let words = c.args.words in
     (omega arith, l.invariant.1 ∙ rest-none words l.at (omega arith) (rw w.ensures at c.if-rest-ne0.false))
 
 pub returns : goal.returns
 unfolding lowest_from
-returns c =
-    let n : 256 - c.loop-at.at ≡ 0 = omega arith in
+returns c = let n : 256 - c.loop-at.at ≡ 0 = omega arith in
     sym (rw n at c.loop-at.invariant.1)

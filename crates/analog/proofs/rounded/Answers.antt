@@ -11,25 +11,26 @@ use Rattle.analog.specs.AnalogCode.{upper_of, full_scale}
 use Rattle.analog.specs.CodeLaws.{scale_small, upper-within}
 use Rattle.analog.proofs.rounded.Goals as goal
 
--- what the two calls gave, as the product reads it
-scale-is : (c : goal.After-full_scale) → bk w64 c.full_scale.result ≡ pos (full_scale c.args.format)
-scale-is c = rw (back_at w64 c.full_scale.result c.full_scale.type_inv, c.full_scale.ensures)
-
-upper_is : (c : goal.After-upper) → bk w64 c.upper.result ≡ upper_of c.args.start c.args.end c.args.r
-upper_is c =
-    let f = c.ranges in
-    rw (back_at w64 c.upper.result c.upper.type_inv, c.upper.ensures, to_z-of_z f.start, to_z-of_z f.end, to_z-of_z f.r)
-
 pub overflow_mul-full_scale : goal.overflow_mul-full_scale
 overflow_mul-full_scale c =
-    let s = c.before.before in
-    rw (scale-is c.before, upper_is c)
+    let scale-is : bk w64 c.full_scale.result ≡ pos (full_scale c.args.format) =
+    rw (back_at w64 c.full_scale.result c.full_scale.type_inv, c.full_scale.ensures) in
+    let upper_is : bk w64 c.upper.result ≡ upper_of c.args.start c.args.end c.args.r =
+    let f = c.ranges in
+    rw (back_at w64 c.upper.result c.upper.type_inv, c.upper.ensures, to_z-of_z f.start, to_z-of_z f.end, to_z-of_z f.r) in
+    let s = c in
+    rw (scale-is, upper_is)
     (mul-fits (scale_small s.args.format) (upper-within s.args.end (size s.ranges.start) (size s.ranges.r)) (lit< tt))
 
 pub returns : goal.returns
 returns c =
+    let scale-is : bk w64 c.full_scale.result ≡ pos (full_scale c.args.format) =
+    rw (back_at w64 c.full_scale.result c.full_scale.type_inv, c.full_scale.ensures) in
+    let upper_is : bk w64 c.upper.result ≡ upper_of c.args.start c.args.end c.args.r =
+    let f = c.ranges in
+    rw (back_at w64 c.upper.result c.upper.type_inv, c.upper.ensures, to_z-of_z f.start, to_z-of_z f.end, to_z-of_z f.r) in
     let l = c.lower in
-    let s = c.before.before.before.before in
+    let s = c in
     rw c.round_div.ensures
-    (rw (to_z-of_z (overflow_mul-full_scale c.before.before), scale-is c.before.before.before, upper_is c.before.before)
-    (rw (back_at w64 l.result l.type_inv, l.ensures, to_z-of_z s.ranges.start, to_z-of_z s.ranges.end)))
+    (rw (to_z-of_z (overflow_mul-full_scale c.before.before), scale-is, upper_is)
+    (rw (back_at w64 l.result l.type-inv, l.ensures, to_z-of_z s.ranges.start, to_z-of_z s.ranges.end)))

@@ -3,6 +3,5 @@ use Rattle.std.proofs.Common.{◌≡◌, length, sym, arith, length-take-le, rul
 use Rattle.bench_frame.proofs.with_answer.Goals as goal
 
 pub slice_bounds-bytes-end : goal.slice_bounds-bytes-end
-slice_bounds-bytes-end c =
-    let n : length c.args.reply.bytes ≡ 9 = search rules in
+slice_bounds-bytes-end c = let n : length c.args.reply.bytes ≡ 9 = search rules in
     omega arith

@@ -4,9 +4,8 @@ use Rattle.std.proofs.Common.{◌≡◌, ◌-◌, ◌*◌, ◌≤◌, length, ap
 use Rattle.bench_step.proofs.collect.Goals as goal
 
 pub loop-i-preserved : goal.loop-i-preserved
-loop-i-preserved c =
-    let same = c.loop-i.invariant.2 in
+loop-i-preserved c = let same = c.loop-i.invariant.2 in
     ⊎_elim
     (λ w. (omega arith, omega arith, ap length w.4 ∙ simp length-set same))
     (λ w. (omega arith, omega arith, ap length w.1 ∙ same))
-    c.match.branch-raw
+    c.match.branch

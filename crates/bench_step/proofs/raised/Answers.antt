@@ -10,12 +10,10 @@ pub overflow_add-result : goal.overflow_add-result
 overflow_add-result c = omega (arith, ints, fit (overflow_cast-result c), fit c.ranges.z)
 
 pub overflow_cast-result-2 : goal.overflow_cast-result-2
-overflow_cast-result-2 c =
-    let z = bk w64 (bk w32 c.args.z) in
+overflow_cast-result-2 c = let z = bk w64 (bk w32 c.args.z) in
     omega (arith, ints, fit (overflow_add-result c), fit (overflow_cast-result c), fit c.ranges.z, add_is z (pos 2147483648))
 
 pub returns : goal.returns
-returns c =
-    let z = bk w64 (bk w32 c.args.z) in
+returns c = let z = bk w64 (bk w32 c.args.z) in
     let s = bk w64 (z +ℤ pos 2147483648) in
     omega (arith, fit (overflow_add-result c), fit (overflow_cast-result c), fit c.ranges.z, add_is z (pos 2147483648), excl s, abs_is s)

@@ -13,8 +13,7 @@ pub loop-i-init : goal.loop-i-init
 loop-i-init c = (search rules, refl, refl)
 
 pub loop-i-preserved : goal.loop-i-preserved
-loop-i-preserved c =
-    let at = c.before.before in
+loop-i-preserved c = let at = c in
     let s = at.args.s.now in
     let d = at.args.d.now in (
       search rules,
@@ -23,8 +22,7 @@ loop-i-preserved c =
     )
 
 pub returns : goal.returns
-returns c =
-    let at = c.before in
+returns c = let at = c in
     let s = at.args.s.now in
     let d = at.args.d.now in
     let e : at.loop-i.i ≡ length s = omega arith in

@@ -11,10 +11,9 @@ pub loop-p-init : goal.loop-p-init
 loop-p-init c = (search rules, search rules, part_none _ _)
 
 pub loop-p-preserved : goal.loop-p-preserved
-loop-p-preserved c =
-    let call = c.before.before.before.before in
-    let at = call.before.before in
-    let start = at.before.before in (
+loop-p-preserved c = let call = c in
+    let at = call in
+    let start = at in (
       search rules,
       search rules,
       part-more start.args.w at.loop-p.p call.first-k.result start.args.g.now at.loop-p.g c.lower.result c.upper.result
@@ -22,9 +21,8 @@ loop-p-preserved c =
     )
 
 pub returns : goal.returns
-returns c =
-    let at = c.before in
-    let start = at.before.before in
+returns c = let at = c in
+    let start = at in
     let e : at.loop-p.p ≡ 16 = omega arith in
     part-all start.args.w start.args.g.now at.loop-p.g start.requires.1.0 at.loop-p.invariant.1
     (subst (λ (n : ℕ). Part start.args.w start.args.g.now at.loop-p.g n) e at.loop-p.invariant.2)

@@ -17,6 +17,5 @@ overflow_shl-result c = omega (arith, (sizes c.args.w c.requires.0).small)
 
 pub returns : goal.returns
 unfolding lower_of
-returns c =
-    let start = c.before in
+returns c = let start = c in
     ap₂ (λ (x t : ℕ). bit_xor x (t * 2 ^ start.args.w % 2 ^ 32)) (sym (mod-eq_of_lt start.ranges.x.fits)) c.crossed.ensures

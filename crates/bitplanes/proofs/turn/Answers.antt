@@ -12,18 +12,16 @@ use Rattle.bitplanes.specs.TurnedLaws.{group-keeps}
 use Rattle.bitplanes.proofs.turn.Goals as goal
 
 pub returns-then-output-n : goal.returns-then-output-n
-returns-then-output-n c =
-    let start = c.before.before.before in
+returns-then-output-n c = let start = c in
     rw (lt-ltb (length start.args.output.now) (length start.args.input.now) (omega arith))
 
 pub loop-at-init : goal.loop-at-init
 loop-at-init c = (search rules, search rules, refl, ap (λ (k : ℕ). in_groups 32 turned_group (k / 32) c.copy.new.1.0) (omega arith))
 
 pub loop-at-preserved : goal.loop-at-preserved
-loop-at-preserved c =
-    let call = c.before.before in
-    let at = call.before.before.before in
-    let start = at.before.before.before.before.before.before.before.before in
+loop-at-preserved c = let call = c in
+    let at = call in
+    let start = at in
     let n = length start.args.input.now in
     let k : (n - at.loop-at.at) / 32 ≡ suc ((n - (at.loop-at.at + 32)) / 32) = omega arith in (
       search rules,
@@ -36,10 +34,9 @@ loop-at-preserved c =
 
 pub returns : goal.returns
 unfolding in_groups
-returns c =
-    let at = c.before in
-    let copied = at.before.before.before in
-    let start = copied.before.before.before.before.before in
+returns c = let at = c in
+    let copied = at in
+    let start = copied in
     let ts = start.args.input.now in
     let old = start.args.output.now in
     let n = length ts in

@@ -26,13 +26,12 @@ unfolding mask_of
 exchange-requires-5 c = (search rules, (by1, refl))
 
 pub returns : goal.returns
-returns c =
-    let by1 = c.before.before in
-    let by2 = by1.before.before.before.before in
-    let by4 = by2.before.before.before.before in
-    let by8 = by4.before.before.before.before in
-    let by16 = by8.before.before.before.before in
-    let start = by16.before.before.before in
+returns c = let by1 = c in
+    let by2 = by1 in
+    let by4 = by2 in
+    let by8 = by4 in
+    let by16 = by8 in
+    let start = by16 in
     by1.exchange-5.ensures
     ∙ ap (exchanged 1)
     (by2.exchange-4.ensures ∙ ap (exchanged 2) (by4.exchange-3.ensures ∙ ap (exchanged 4) (by8.exchange-2.ensures ∙ ap (exchanged 8) by16.exchange.ensures)))

@@ -16,13 +16,12 @@ pub bounds-s-i : goal.bounds-s-i
 bounds-s-i c = omega arith
 
 pub returns-then-b-lt48 : goal.returns-then-b-lt48
-returns-then-b-lt48 c =
-    let s = c.args.s.now in
+returns-then-b-lt48 c = let s = c.args.s.now in
     let l = c.loop-i in
     let b = get_or s l.i 0 in
     sym
     (all_drop s l.i c.loop-i-test.true
-    ∙ ⊎_elim (λ w. rw (lt-leb 48 b (omega (arith, w.true)))) (λ w. rw (le-leb 48 b (omega (arith, w.0.false)), lt-leb b 57 (ltb-true 57 b w.1.true))) c.then-b-lt48.branch-raw)
+    ∙ ⊎_elim (λ w. rw (lt-leb 48 b (omega (arith, w.true)))) (λ w. rw (le-leb 48 b (omega (arith, w.0.false)), lt-leb b 57 (ltb-true 57 b w.1.true))) c.then-b-lt48.branch)
     ∙ l.invariant.1
 
 pub overflow_add-i : goal.overflow_add-i
@@ -32,14 +31,12 @@ pub loop-i-smaller : goal.loop-i-smaller
 loop-i-smaller c = omega arith
 
 pub loop-i-preserved : goal.loop-i-preserved
-loop-i-preserved c =
-    let s = c.args.s.now in
+loop-i-preserved c = let s = c.args.s.now in
     let l = c.loop-i in
     let b = get_or s l.i 0 in
-    let d = rw (le-leb 48 b (omega arith), le-leb b 57 (ltb-false 57 b c.if-b-gt57.false)) at (all_drop s l.i c.loop-i-test.true) in
+    let d = rw (le-leb 48 b (omega arith), le-leb b 57 (ltb-false 57 b c.if-b-gt57.false-raw)) at (all_drop s l.i c.loop-i-test.true) in
     (omega arith, sym d ∙ l.invariant.1)
 
 pub returns : goal.returns
-returns c =
-    let l = c.loop-i in
+returns c = let l = c.loop-i in
     sym (all_end c.args.s.now l.i c.loop-i-test.false) ∙ l.invariant.1

@@ -16,32 +16,35 @@ use Rattle.decimal.proofs.Steps.{rest_all, by_first}
 use borrow.Author.Rules.{rules}
 use Rattle.decimal.proofs.parse.Goals as goal
 
-passed : (c : goal.Then-natural) → is_natural c.args.s.now ≡ true
-passed c = sym c.natural.ensures ∙ c.if-natural.true
-
 pub returns-then-s-eq0 : goal.returns-then-s-eq0
 returns-then-s-eq0 c = sym (empty-malformed _ c.if-s-eq0.true)
 
 pub returns-then-first-eq45 : goal.returns-then-first-eq45
-returns-then-first-eq45 c =
-    let s = c.args.s.now in
+returns-then-first-eq45 c = let s = c.args.s.now in
     c.negative.ensures
     ∙ ap (λ (t : List ℕ). parsed_of (minus ∷ t)) (rest_all s)
     ∙ ap parsed_of (sym (by_first s minus (omega arith) c.if-first-eq45.true))
 
 pub value-z-requires : goal.value-z-requires
-value-z-requires c = passed c
+value-z-requires c =
+    let passed : is_natural c.args.s.now ≡ true =
+    sym c.natural.ensures ∙ c.if-natural.true in
+    passed
 
 pub overflow_cast-z : goal.overflow_cast-z
-overflow_cast-z c = omega (arith, ints, pass-range _ (passed c.before), c.value-z.ensures)
+overflow_cast-z c =
+    let passed : is_natural c.args.s.now ≡ true =
+    sym c.natural.ensures ∙ c.if-natural.true in
+    omega (arith, ints, pass-range _ (passed), c.value-z.ensures)
 
 pub returns-then-natural : goal.returns-then-natural
 returns-then-natural c =
-    rw (to_z-of_z {z = pos c.value-z.result} (overflow_cast-z c), c.value-z.ensures) (sym (natural-read _ (passed c.before)))
+    let passed : is_natural c.args.s.now ≡ true =
+    sym c.natural.ensures ∙ c.if-natural.true in
+    rw (to_z-of_z {z = pos c.value-z.result} (overflow_cast-z c), c.value-z.ensures) (sym (natural-read _ (passed)))
 
 pub returns : goal.returns
-returns c =
-    let s = c.args.s.now in
+returns c = let s = c.args.s.now in
     sym
     (natural-malformed s (sym c.natural.ensures ∙ c.if-natural.false)
     (λ t e. c.if-first-eq45.false (ap (λ (l : List ℕ). get_or l 0 0) e)))

@@ -18,15 +18,17 @@ overflow_mul-top c = omega arith
 pub overflow_add-k : goal.overflow_add-k
 overflow_add-k c = omega (arith, digits-few c.args.n)
 
--- where top is at most n there is a further digit
-further : (c : goal.In-loop-top) → c.loop-top.k < length (digits_of c.args.n)
-further c = digits-beyond _ c.args.n c.requires (omega arith)
-
 pub loop-top-smaller : goal.loop-top-smaller
-loop-top-smaller c = omega (arith, further c)
+loop-top-smaller c =
+    let further : c.loop-top.k < length (digits_of c.args.n) =
+    digits-beyond _ c.args.n c.requires (omega arith) in
+    omega (arith, further)
 
 pub loop-top-preserved : goal.loop-top-preserved
-loop-top-preserved c = rw (add-one c.loop-top.k, pow-suc 10 c.loop-top.k) (omega (arith, further c))
+loop-top-preserved c =
+    let further : c.loop-top.k < length (digits_of c.args.n) =
+    digits-beyond _ c.args.n c.requires (omega arith) in
+    rw (add-one c.loop-top.k, pow-suc 10 c.loop-top.k) (omega (arith, further))
 
 pub returns : goal.returns
 returns c = omega (arith, digits-within c.loop-top.k c.args.n c.requires (omega arith) (omega arith))

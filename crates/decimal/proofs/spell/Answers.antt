@@ -29,8 +29,7 @@ pub loop-rest-smaller : goal.loop-rest-smaller
 loop-rest-smaller c = shorter c.loop-rest.rest c.loop-rest-test.true
 
 pub loop-rest-preserved : goal.loop-rest-preserved
-loop-rest-preserved c =
-    let l = c.loop-rest in
+loop-rest-preserved c = let l = c.loop-rest in
     let h = c.loop-rest-test.true in
     let b = l.invariant.3 in
     let m = digits-count l.rest h b in (
@@ -54,6 +53,5 @@ pub shape_of-out : goal.shape_of-out
 shape_of-out c = length-set c.loop-rest.out 0 _ ∙ c.loop-rest.invariant.0
 
 pub returns : goal.returns
-returns c =
-    let l = c.loop-rest in
+returns c = let l = c.loop-rest in
     spell_last l.out l.rest l.i c.loop-rest-test.false l.invariant.1 (omega arith) ∙ l.invariant.4

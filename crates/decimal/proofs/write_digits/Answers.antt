@@ -5,6 +5,5 @@ use borrow.Author.Rules.{rules}
 use Rattle.decimal.proofs.write_digits.Goals as goal
 
 pub spell-requires : goal.spell-requires
-spell-requires c =
-    let start = c.before.before.before in
+spell-requires c = let start = c in
     (start.requires.1, c.places-k.ensures, omega (arith, c.places-k.ensures, digits-few start.args.n))

@@ -24,8 +24,7 @@ pub loop-a-smaller-then-is_present : goal.loop-a-smaller-then-is_present
 loop-a-smaller-then-is_present c = omega arith
 
 pub loop-a-preserved-then-is_present : goal.loop-a-preserved-then-is_present
-loop-a-preserved-then-is_present c =
-    let t = c.before in
+loop-a-preserved-then-is_present c = let t = c in
     let l = t.loop-a in
     let s = count-step (present t.args.d) l.a (omega arith) true (sym t.is_present.ensures ∙ c.if-is_present.true) in
     (omega arith, omega arith, l.invariant.2 ∙ rw s (omega arith))
@@ -34,13 +33,11 @@ pub loop-a-smaller : goal.loop-a-smaller
 loop-a-smaller c = omega arith
 
 pub loop-a-preserved : goal.loop-a-preserved
-loop-a-preserved c =
-    let t = c.before in
+loop-a-preserved c = let t = c in
     let l = t.loop-a in
     let s = count-step (present t.args.d) l.a (omega arith) false (sym t.is_present.ensures ∙ c.if-is_present.false) in
     (omega arith, omega arith, l.invariant.2 ∙ rw s (omega arith))
 
 pub returns : goal.returns
-returns c =
-    let l = c.loop-a in
+returns c = let l = c.loop-a in
     sym (l.invariant.2 ∙ rw (count-end (present c.args.d) l.a (omega arith)) (add-zero l.n))

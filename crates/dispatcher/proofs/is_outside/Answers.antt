@@ -6,8 +6,7 @@ use lib.Dec.{ltb}
 use Rattle.dispatcher.proofs.is_outside.Goals as goal
 
 pub returns-then-address-lt-LOWEST : goal.returns-then-address-lt-LOWEST
-returns-then-address-lt-LOWEST c =
-    let a = c.args.address in
+returns-then-address-lt-LOWEST c = let a = c.args.address in
     let e = lt-ltb a 1 c.if-address-lt-LOWEST.true in
     e ∙ sym (ap (λ (low : Bool). low || ltb 247 a) e)
 

@@ -5,18 +5,15 @@ use Rattle.dispatcher.specs.TurnLaws.{next-higher, next-lowest, next-empty}
 use Rattle.dispatcher.proofs.next.Goals as goal
 
 pub returns-then-is_empty : goal.returns-then-is_empty
-returns-then-is_empty c =
-    let e = c.before in
+returns-then-is_empty c = let e = c in
     next-empty e.args.g (sym e.is_empty.ensures ∙ c.if-is_empty.true)
 
 pub returns-then-higher-eq0 : goal.returns-then-higher-eq0
-returns-then-higher-eq0 c =
-    let l = c.before.before in
+returns-then-higher-eq0 c = let l = c in
     let a = l.args in
-    c.lowest_above.ensures ∙ sym (next-lowest a.g (sym l.lowest_above-higher.ensures ∙ c.if-higher-eq0.true))
+    c.lowest_above.ensures ∙ sym (next-lowest a.g (sym l.lowest-above.ensures ∙ c.if-higher-eq0.true))
 
 pub returns : goal.returns
-returns c =
-    let l = c.before in
+returns c = let l = c in
     let a = l.args in
-    l.lowest_above-higher.ensures ∙ sym (next-higher a.g (λ e. c.if-higher-eq0.false (l.lowest_above-higher.ensures ∙ e)))
+    l.lowest-above.ensures ∙ sym (next-higher a.g (λ e. c.if-higher-eq0.false (l.lowest-above.ensures ∙ e)))

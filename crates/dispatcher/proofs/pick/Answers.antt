@@ -5,41 +5,43 @@ use borrow.Author.Rules.{rules}
 use Rattle.dispatcher.specs.Dispatch.{group_of, some, next_of, after_error, polled_of}
 use Rattle.dispatcher.specs.TurnLaws.{next-none, next-some, pick_first, pick_second, pick-none}
 use Rattle.dispatcher.proofs.pick.Goals as goal
-use Rattle.dispatcher.proofs.pick.Tie as tie
-
--- the next of the group that comes first, and of the second
-first : (c : tie.After-next-a) → let d = c.args.d in c.next-a.result ≡ next_of (group_of d (not (after_error d)))
-first c = c.next-a.ensures ∙ ap next_of c.Group-of.ensures
-
-second : (c : tie.After-next-b) → let d = c.args.d in c.next-b.result ≡ next_of (group_of d (after_error d))
-second c = c.next-b.ensures ∙ ap next_of c.group_of-2.ensures
-
--- the first has no member
-none_first : (c : tie.Else-a-ne0) → let d = c.args.d in some (group_of d (not (after_error d))) ≡ false
-none_first c =
-    let d = c.args.d in
-    next-none (group_of d (not (after_error d))) (sym (first c.before) ∙ c.if-a-ne0.false)
 
 pub returns-then-a-ne0 : goal.returns-then-a-ne0
 returns-then-a-ne0 c =
-    let w = c.before.before in
+    let first : let d = c.args.d in c.next-a.result ≡ next_of (group_of d (not (after_error d))) =
+    c.next-a.ensures ∙ ap next_of c.Group-of.ensures in
+    let w = c in
     let d = w.args.d in
     c.polled.ensures
-    ∙ ap (polled_of d (not (after_error d))) (first w)
-    ∙ sym (pick_first d (after_error d) refl (next-some (group_of d (not (after_error d))) (λ e. c.if-a-ne0.true (first w ∙ e))))
+    ∙ ap (polled_of d (not (after_error d))) (first)
+    ∙ sym (pick_first d (after_error d) refl (next-some (group_of d (not (after_error d))) (λ e. c.if-a-ne0.true (first ∙ e))))
 
 pub returns-then-b-ne0 : goal.returns-then-b-ne0
 returns-then-b-ne0 c =
-    let w = c.before.before in
-    let e = w.before.before.before in
+    let first : let d = c.args.d in c.next-a.result ≡ next_of (group_of d (not (after_error d))) =
+    c.next-a.ensures ∙ ap next_of c.Group-of.ensures in
+    let second : let d = c.args.d in c.next-b.result ≡ next_of (group_of d (after_error d)) =
+    c.next-b.ensures ∙ ap next_of c.group_of-2.ensures in
+    let none_first : let d = c.args.d in some (group_of d (not (after_error d))) ≡ false =
+    let d = c.args.d in
+    next-none (group_of d (not (after_error d))) (sym (first) ∙ c.if-a-ne0.false) in
+    let w = c in
+    let e = w in
     let d = e.args.d in
     c.polled-then-b-ne0.ensures
-    ∙ ap (polled_of d (after_error d)) (second w)
-    ∙ sym (pick_second d (after_error d) refl (none_first e) (next-some (group_of d (after_error d)) (λ z. c.if-b-ne0.true (second w ∙ z))))
+    ∙ ap (polled_of d (after_error d)) (second)
+    ∙ sym (pick_second d (after_error d) refl (none_first) (next-some (group_of d (after_error d)) (λ z. c.if-b-ne0.true (second ∙ z))))
 
 pub returns : goal.returns
 returns c =
-    let w = c.before in
-    let e = w.before.before.before in
+    let first : let d = c.args.d in c.next-a.result ≡ next_of (group_of d (not (after_error d))) =
+    c.next-a.ensures ∙ ap next_of c.Group-of.ensures in
+    let second : let d = c.args.d in c.next-b.result ≡ next_of (group_of d (after_error d)) =
+    c.next-b.ensures ∙ ap next_of c.group_of-2.ensures in
+    let none_first : let d = c.args.d in some (group_of d (not (after_error d))) ≡ false =
+    let d = c.args.d in
+    next-none (group_of d (not (after_error d))) (sym (first) ∙ c.if-a-ne0.false) in
+    let w = c in
+    let e = w in
     let d = e.args.d in
-    sym (pick-none d (after_error d) (none_first e) (next-none (group_of d (after_error d)) (sym (second w) ∙ c.if-b-ne0.false)))
+    sym (pick-none d (after_error d) (none_first) (next-none (group_of d (after_error d)) (sym (second) ∙ c.if-b-ne0.false)))

@@ -9,27 +9,29 @@ use Rattle.dispatcher.specs.CallLaws.{in-range, report-outside, report-unknown, 
 use Rattle.dispatcher.proofs.report.Goals as goal
 
 pub returns-then-is_outside : goal.returns-then-is_outside
-returns-then-is_outside c =
-    let o = c.before.before in
+returns-then-is_outside c = let o = c in
     let a = o.args in
     c.refused.ensures ∙ sym (report-outside a.d a.address a.error (sym o.is_outside.ensures ∙ c.if-is_outside.true))
 
--- behind the first test the address is one
-within : (c : goal.Else-is_outside) → outside c.args.address ≡ false
-within c = sym c.is_outside.ensures ∙ c.if-is_outside.false
-
 pub overflow_cast-a : goal.overflow_cast-a
-overflow_cast-a c = omega (arith, (in-range c.args.address (within c)).1)
+overflow_cast-a c =
+    let within : outside c.args.address ≡ false =
+    sym c.is_outside.ensures ∙ c.if-is_outside.false in
+    omega (arith, (in-range c.args.address (within)).1)
 
 pub returns-then-is_present : goal.returns-then-is_present
 returns-then-is_present c =
-    let p = c.before.before in
+    let within : outside c.args.address ≡ false =
+    sym c.is_outside.ensures ∙ c.if-is_outside.false in
+    let p = c in
     let a = p.args in
     ap (λ (d : Dispatcher). answer d 0) c.with_report.ensures
-    ∙ sym (report-taken a.d a.address a.error (within p.before) (sym p.is_present.ensures ∙ c.if-is_present.true))
+    ∙ sym (report-taken a.d a.address a.error (within) (sym p.is_present.ensures ∙ c.if-is_present.true))
 
 pub returns : goal.returns
 returns c =
-    let p = c.before.before in
+    let within : outside c.args.address ≡ false =
+    sym c.is_outside.ensures ∙ c.if-is_outside.false in
+    let p = c in
     let a = p.args in
-    c.refused-2.ensures ∙ sym (report-unknown a.d a.address a.error (within p.before) (sym p.is_present.ensures ∙ c.if-is_present.false))
+    c.refused-2.ensures ∙ sym (report-unknown a.d a.address a.error (within) (sym p.is_present.ensures ∙ c.if-is_present.false))

@@ -11,7 +11,7 @@ widened-requires-in-Milliamps c = let p = c.requires in (p.0, rw c.in-Milliamps.
 
 pub returns-in-Off : goal.returns-in-Off
 unfolding updated_of
-returns-in-Off c = rw (c.enum_told.given.1, c.false_alone.ensures)
+returns-in-Off c = rw (c.enum_told-1.given.1, c.left_alone.ensures)
 
 pub returns-in-Volts : goal.returns-in-Volts
 unfolding updated_of

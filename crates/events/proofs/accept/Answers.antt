@@ -9,7 +9,7 @@ use borrow.Author.Rules.{rules}
 use Rattle.events.proofs.accept.Goals as goal
 
 -- a test of the definition, from the code's, which looks at the kind k
-is-not : {k kind n : ℕ} → k ≡ kind → (k ≡ n → ⊥) → eqb kind n ≡ false
+pub is-not : {k kind n : ℕ} → k ≡ kind → (k ≡ n → ⊥) → eqb kind n ≡ false
 is-not e h = ne_eqb _ _ (λ q. h (e ∙ q))
 
 pub returns-in-0 : goal.returns-in-0

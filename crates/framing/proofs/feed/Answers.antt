@@ -18,26 +18,23 @@ pub overflow_add-i : goal.overflow_add-i
 overflow_add-i c = omega arith
 
 pub returns-then-d : goal.returns-then-d
-returns-then-d c =
-    let p = c.before in
+returns-then-d c = let p = c in
     let l = p.loop-i in
-    let s = p.before.before.before.before.before in
+    let s = p in
     sym (l.invariant ∙ fed-next s.args.node l.d s.args.bytes.now l.i (omega arith) ∙ rw (← p.push-d.ensures, c.if-d.true))
 
 pub loop-i-smaller : goal.loop-i-smaller
 loop-i-smaller c = omega arith
 
 pub loop-i-preserved : goal.loop-i-preserved
-loop-i-preserved c =
-    let p = c.before in
+loop-i-preserved c = let p = c in
     let l = p.loop-i in
-    let s = p.before.before.before.before.before in
+    let s = p in
     (l.invariant ∙ fed-next s.args.node l.d s.args.bytes.now l.i (omega arith) ∙ rw (← p.push-d.ensures, c.if-d.false))
 
 pub returns : goal.returns
 unfolding fed_to
-returns c =
-    let l = c.loop-i in
+returns c = let l = c.loop-i in
     let bytes = c.args.bytes.now in
     let done : length bytes ≤ l.i = omega arith in
     sym (rw (drop_of_length-le bytes done) at l.invariant)

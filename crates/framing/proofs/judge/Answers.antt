@@ -8,47 +8,44 @@ use Rattle.framing.specs.Ends.{stops}
 use Rattle.framing.specs.Collector.{judged}
 use borrow.Author.Rules.{rules}
 use Rattle.framing.proofs.judge.Goals as goal
-use Rattle.framing.proofs.judge.Tie as tie
-
-room : (s : tie.Start) → s.args.c.length ≤ length s.args.c.bytes
-room s =
-    let l : length s.args.c.bytes ≡ 257 = search rules in
-    omega (arith, s.requires)
 
 pub slice_bounds-bytes-end : goal.slice_bounds-bytes-end
-slice_bounds-bytes-end c = room c.before
+slice_bounds-bytes-end c =
+    let room : c.args.c.length ≤ length c.args.c.bytes =
+    let l : length c.args.c.bytes ≡ 257 = search rules in
+    omega (arith, c.requires) in
+    room
 
 pub foreign-requires : goal.foreign-requires
-foreign-requires c = omega (arith, room c.before.before.before, length-take c.args.c.length c.args.c.bytes)
+foreign-requires c =
+    let room : c.args.c.length ≤ length c.args.c.bytes =
+    let l : length c.args.c.bytes ≡ 257 = search rules in
+    omega (arith, c.requires) in
+    omega (arith, room, length-take c.args.c.length c.args.c.bytes)
 
 pub returns-then-request : goal.returns-then-request
 unfolding judged stops
-returns-then-request c =
-    let g = c.before.before.before in
+returns-then-request c = let g = c in
     rw (sym g.foreign.ensures ∙ c.if-foreign.true, sym g.whole_request-request.ensures ∙ c.if-request.true, c.empty.ensures)
 
 pub returns-then-whole_reply : goal.returns-then-whole_reply
 unfolding judged stops
-returns-then-whole_reply c =
-    let r = c.before.before in
-    let g = r.before.before.before in
+returns-then-whole_reply c = let r = c in
+    let g = r in
     rw (sym g.foreign.ensures ∙ r.if-foreign.true, sym g.whole_request-request.ensures ∙ r.if-request.false, sym r.whole_reply.ensures ∙ c.if-whole_reply.true, c.empty-then-whole_reply.ensures)
 
 pub returns-then-foreign : goal.returns-then-foreign
 unfolding judged stops
-returns-then-foreign c =
-    let r = c.before in
-    let g = r.before.before.before in
+returns-then-foreign c = let r = c in
+    let g = r in
     rw (sym g.foreign.ensures ∙ r.if-foreign.true, sym g.whole_request-request.ensures ∙ r.if-request.false, sym r.whole_reply.ensures ∙ c.if-whole_reply.false)
 
 pub returns-then-request-2 : goal.returns-then-request-2
 unfolding judged stops
-returns-then-request-2 c =
-    let g = c.before.before.before in
+returns-then-request-2 c = let g = c in
     rw (sym g.foreign.ensures ∙ c.if-foreign.false, sym g.whole_request-request.ensures ∙ c.if-request-2.true, c.close.ensures)
 
 pub returns : goal.returns
 unfolding judged stops
-returns c =
-    let g = c.before.before in
+returns c = let g = c in
     rw (sym g.foreign.ensures ∙ c.if-foreign.false, sym g.whole_request-request.ensures ∙ c.if-request-2.false)

@@ -10,8 +10,7 @@ judge-requires c = rw c.add.ensures (omega arith, omega arith)
 
 pub returns-then-n-lt-MOST_HELD : goal.returns-then-n-lt-MOST_HELD
 unfolding pushed
-returns-then-n-lt-MOST_HELD c =
-    let n = c.before.before.before in
+returns-then-n-lt-MOST_HELD c = let n = c in
     rw (← n.still_held-n.ensures, lt-ltb _ _ c.if-n-lt-MOST_HELD.true, c.judge.ensures, c.add.ensures)
 
 pub returns : goal.returns

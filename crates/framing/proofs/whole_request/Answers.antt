@@ -5,8 +5,8 @@ use Rattle.framing.proofs.whole_request.Goals as goal
 
 pub returns-then-not-unknown : goal.returns-then-not-unknown
 unfolding is_request
-returns-then-not-unknown c = rw (← c.unknown.ensures, c.if-not-unknown.true, c.broken.ensures)
+returns-then-not-unknown c = rw (← c.unknown.ensures, c.if-not-unknown.true-raw, c.broken.ensures)
 
 pub returns-else-not-unknown : goal.returns-else-not-unknown
 unfolding is_request
-returns-else-not-unknown c = rw (← c.unknown.ensures, c.if-not-unknown.false)
+returns-else-not-unknown c = rw (← c.unknown.ensures, c.if-not-unknown.false-raw)

@@ -18,10 +18,9 @@ pub edge-requires : goal.edge-requires
 edge-requires c = omega arith
 
 pub input-x-requires : goal.input-x-requires
-input-x-requires c =
-    let turn = c.before.before.before.before.before.before in
+input-x-requires c = let turn = c in
     let l = turn.loop-i in
-    let s = turn.before in
+    let s = turn in
     let g = rw (← l.invariant.1.0) at (good-inputs s.args.levels l.i (acted (state_of s.args.t.now s.args.l) 0) s.requires) in
     (g.table, omega arith)
 
@@ -33,20 +32,18 @@ loop-i-smaller c = omega arith
 
 pub loop-i-preserved : goal.loop-i-preserved
 unfolding inputs_of input_of edge_at marks_up_to marks_at
-loop-i-preserved c =
-    let l = c.loop-i in
+loop-i-preserved c = let l = c.loop-i in
     let e = c.edge.ensures in (
       omega arith,
       ⊎_elim
           (λ w. (rw (add-one, ← l.invariant.1.0, ← e, w.0.true, w.3, w.4) w.2.ensures.0, rw (add-one, ← l.invariant.1.0, ← e, w.0.true, w.4, ← l.invariant.1.1) w.2.ensures.1))
           (λ w. (rw (add-one, ← l.invariant.1.0, ← e, w.0.false, w.1, w.2), rw (add-one, ← l.invariant.1.0, ← e, w.0.false, w.2, ← l.invariant.1.1)))
-          c.if-edge.branch-raw,
+          c.if-edge.branch,
     )
 
 pub returns : goal.returns
-returns c =
-    let l = c.loop-i in
-    let s = c.before.before in
+returns c = let l = c.loop-i in
+    let s = c in
     let all : l.i ≡ 3 = omega arith in
     let f = state_of s.args.t.now s.args.l in
     let e = (rw all at l.invariant.1.0) ∙ all-inputs f s.args.levels in

@@ -3,5 +3,5 @@ use borrow.Author.Rules.{rules}
 use Rattle.inputs.proofs.edge.Goals as goal
 
 pub returns : goal.returns
-returns c = let b = c.before.before in
+returns c = let b = c in
     rw (c.acts_on.ensures, c.high_at-2.ensures, b.high_at.ensures, b.config_at.ensures)

@@ -5,8 +5,8 @@ use Rattle.inputs.proofs.holds.Goals as goal
 
 pub returns-then-freezes_at : goal.returns-then-freezes_at
 unfolding freezes
-returns-then-freezes_at c = let b = c.before.before in
-    let test = b.before in
+returns-then-freezes_at c = let b = c in
+    let test = b in
     rw (← test.freezes_at.ensures, test.if-freezes_at.true, c.lasts_at.ensures, c.high_at.ensures, b.config_at.ensures)
 
 pub returns : goal.returns

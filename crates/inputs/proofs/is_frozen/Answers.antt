@@ -9,10 +9,10 @@ returns-then-holds c = rw (← c.holds.ensures, c.if-holds.true)
 
 pub returns-then-holds-2 : goal.returns-then-holds-2
 unfolding frozen
-returns-then-holds-2 c = let b = c.before.before in
+returns-then-holds-2 c = let b = c in
     rw (← b.holds.ensures, b.if-holds.false, ← c.holds-2.ensures, c.if-holds-2.true)
 
 pub returns : goal.returns
 unfolding frozen
-returns c = let b = c.before.before.before in
+returns c = let b = c in
     rw (← b.holds.ensures, b.if-holds.false, ← c.holds-2.ensures, c.if-holds-2.false, c.holds-3.ensures)

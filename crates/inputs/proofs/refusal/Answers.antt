@@ -5,11 +5,11 @@ use Rattle.inputs.proofs.refusal.Goals as goal
 
 pub returns-in-None : goal.returns-in-None
 unfolding refusal_of
-returns-in-None c = rw c.enum_told.given.1
+returns-in-None c = rw c.enum_told-1.given.1
 
 pub returns-in-Reset : goal.returns-in-Reset
 unfolding refusal_of
-returns-in-Reset c = let b = c.before in
+returns-in-Reset c = let b = c in
     rw (b.in-Reset.is, c.reset_refusal.ensures, b.error_in-error.ensures)
 
 pub returns-in-Freeze : goal.returns-in-Freeze
@@ -26,5 +26,5 @@ returns-in-ClearExtremes c = rw c.in-ClearExtremes.is
 
 pub returns-in-Teach : goal.returns-in-Teach
 unfolding refusal_of
-returns-in-Teach c = let b = c.before in
+returns-in-Teach c = let b = c in
     rw (b.in-Teach.is, c.teach_refusal.ensures, b.error_in-error.ensures)

@@ -12,18 +12,20 @@ use Rattle.state.specs.State.{reread_of}
 use Rattle.inputs.specs.Commands.{reset_of}
 use Rattle.inputs.proofs.reset.Goals as goal
 
-start_is : (c : goal.After-store_offset) → let l = c.args.l in to_z w32 l.basis.start ≡ pos l.basis.start
-start_is c = let s = c.before.before.before.before in to_z_pos w32 {n = s.args.l.basis.start} (omega (arith, s.requires.1))
-
 pub read-m-requires : goal.read-m-requires
-read-m-requires c = let b = c.before in
-    let s = b.before.before.before.before in
-    rw (b.store_offset.ensures, start_is b) (valid-offset s.requires.0 (record { above = s.requires.1; below = omega arith }))
+read-m-requires c =
+    let start_is : let l = c.args.l in to_z w32 l.basis.start ≡ pos l.basis.start =
+    let s = c in to_z_pos w32 {n = s.args.l.basis.start} (omega (arith, s.requires.1)) in
+    let b = c in
+    let s = b in
+    rw (b.store_offset.ensures, start_is) (valid-offset s.requires.0 (record { above = s.requires.1; below = omega arith }))
 
 pub returns : goal.returns
 unfolding reset_of reread_of marked_of
 returns c =
-    let m = c.before.before in
-    let b = m.before.before in
+    let start_is : let l = c.args.l in to_z w32 l.basis.start ≡ pos l.basis.start =
+    let s = c in to_z_pos w32 {n = s.args.l.basis.start} (omega (arith, s.requires.1)) in
+    let m = c in
+    let b = m in
     let o = b.store_offset.ensures in
-    (rw (c.reread-live.ensures, m.read-m.ensures, o, start_is b), rw (m.read-m.ensures, o, start_is b))
+    (rw (c.reread-live.ensures, m.read-m.ensures, o, start_is), rw (m.read-m.ensures, o, start_is))

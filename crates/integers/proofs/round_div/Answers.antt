@@ -18,19 +18,23 @@ use Rattle.integers.specs.RoundLaws.{quot-up, quot-keep, quot-down, not-above}
 use Rattle.integers.specs.HalfLaws.{half-rest, no-divisor}
 use Rattle.integers.specs.declared.Rounded.{Rounded}
 use Rattle.integers.proofs.round_div.Goals as goal
-use Rattle.integers.proofs.round_div.Tie as tie
+use Rattle.integers.proofs.round_div.Lts as lts
+use Rattle.integers.proofs.round_div.Reads as reads
 
-abbrev n : tie.Start → ℤ
+abbrev Start : Type 0
+Start = lts.Start reads.Pre reads.Post
+
+abbrev n : Start → ℤ
 n s = bk w64 s.args.n
 
-abbrev d : tie.Start → ℤ
+abbrev d : Start → ℤ
 d s = bk w64 s.args.d
 
-abbrev r : tie.Start → ℤ
+abbrev r : Start → ℤ
 r s = rem_z (n s) (d s)
 
 -- a value and a mark that are right are the rounding
-both : (s : tie.Start) (v : ℤ) (h : Bool) → v ≡ round_div (n s) (d s) → h ≡ halved (n s) (d s) → ◌≡◌ {A = Rounded} (record { value = v; half = h }) (rounding s.args.n s.args.d)
+both : (s : Start) (v : ℤ) (h : Bool) → v ≡ round_div (n s) (d s) → h ≡ halved (n s) (d s) → ◌≡◌ {A = Rounded} (record { value = v; half = h }) (rounding s.args.n s.args.d)
 unfolding rounding
 both s v h e f =
     let x = rw (to_z-of_z s.ranges.n, to_z-of_z s.ranges.d) at e in
@@ -60,14 +64,14 @@ nonzero_div-q c = let f = c.ranges in div-ok f.n f.d (omega (arith, ints, fit f.
 pub nonzero_rem-r : goal.nonzero_rem-r
 nonzero_rem-r c = nonzero_div-q c
 
-r-fits : (s : tie.Start) → SFits w64 (r s)
+r-fits : (s : Start) → SFits w64 (r s)
 r-fits s = rem-fits (d s) (again s.ranges.n)
 
 qr : (c : goal.Else-d-le0) → Division (n c.before) (d c.before)
 qr c = division (n c.before) (d c.before) (d-above c)
 
 -- the quotient that stays, where twice the remainder is below the divisor
-q-kept : (s : tie.Start) → N (d s) < P (d s) → 2 * P (r s) < P (d s) → 2 * N (r s) < P (d s) → bk w64 (quot_z (n s) (d s)) ≡ round_div (n s) (d s)
+q-kept : (s : Start) → N (d s) < P (d s) → 2 * P (r s) < P (d s) → 2 * N (r s) < P (d s) → bk w64 (quot_z (n s) (d s)) ≡ round_div (n s) (d s)
 q-kept s h u l = rw (to_z-of_z (quot_fits (d s) (again s.ranges.n) h)) (quot-keep (n s) (d s) h u l)
 
 -- ---- r not negative

@@ -9,12 +9,10 @@ use Rattle.lines.proofs.count_more.Goals as goal
 
 pub returns-then-n-more : goal.returns-then-n-more
 unfolding count_more
-returns-then-n-more c =
-    let a = c.args in
+returns-then-n-more c = let a = c.args in
     rw (lt-ltb (a.n + a.k) largest (omega arith))
 
 pub returns : goal.returns
 unfolding count_more
-returns c =
-    let a = c.args in
+returns c = let a = c.args in
     rw (le-ltb (a.n + a.k) largest (omega arith))

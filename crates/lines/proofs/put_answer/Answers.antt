@@ -10,7 +10,6 @@ pub put_drives-requires : goal.put_drives-requires
 put_drives-requires c = put-room c.put_values-p1.ensures 42 46 (values-at-most-42 _) (omega arith)
 
 pub returns : goal.returns
-returns c =
-    let values = c.before.before.before.before.before.before in
+returns c = let values = c in
     let args = values.args in
     rw (← answer-parts args.t.now args.o) (put_both values.put_values-p1.ensures c.put_drives.ensures (omega (arith, values-at-most-42 args.o.live)))

@@ -10,17 +10,15 @@ use borrow.Author.Rules.{rules}
 use Rattle.lines.proofs.put_drives.Goals as goal
 
 pub put_natural-requires : goal.put_natural-requires
-put_natural-requires c =
-    let analog = c.before.before.before.before in
-    let outs = analog.before.before.before.before.before in
+put_natural-requires c = let analog = c in
+    let outs = analog in
     let room = put-room outs.put_outs-p1.ensures 5 40 (omega arith) (omega (arith, outs.requires)) in
     (put-room analog.put_analog-p2.ensures 20 20 (analog-field-at-most-20 _ _) room, omega arith)
 
 pub returns : goal.returns
 unfolding drive_fields
-returns c =
-    let r = c.args.o.live.reading in
-    let e = back_at w32 r.code c.struct_told.given.1.1.0.1 in
+returns c = let r = c.args.o.live.reading in
+    let e = back_at w32 r.code c.struct_told-1.given.1.1.0.1 in
     let p1 = rw c.outputs.ensures at c.put_outs-p1.ensures in
     let p2 = rw e at c.put_analog-p2.ensures in
     put_both (put_both p1 p2 (omega arith)) c.put_natural.ensures (simp length-append (omega (arith, analog-at-most-19 r.drive r.code)))

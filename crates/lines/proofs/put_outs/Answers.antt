@@ -3,9 +3,8 @@ use borrow.Author.Rules.{rules}
 use Rattle.lines.proofs.put_outs.Goals as goal
 
 pub returns : goal.returns
-returns c =
-    let last = c.before.before.before.before.before in
-    let third = last.before in
-    let second = third.before in
+returns c = let last = c in
+    let third = last in
+    let second = third in
     rw (second.level_digit.ensures, second.level_digit-2.ensures, third.level_digit-3.ensures, last.level_digit-4.ensures)
     at c.put_bytes.ensures

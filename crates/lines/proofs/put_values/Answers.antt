@@ -13,16 +13,14 @@ pub put_word-p2-requires : goal.put_word-p2-requires
 put_word-p2-requires c = put-room c.put_word-p1.ensures 20 20 (field-at-most-20 _ space) (omega arith)
 
 pub put_natural-requires : goal.put_natural-requires
-put_natural-requires c =
-    let shown = c.before.before.before.before in
+put_natural-requires c = let shown = c in
     let room = put-room shown.put_word-p1.ensures 20 40 (field-at-most-20 _ space) (omega arith) in
     (put-room shown.put_word-p2.ensures 20 20 (field-at-most-20 _ space) room, omega arith)
 
 pub returns : goal.returns
 unfolding value_fields
-returns c =
-    let l = c.args.l in
-    let r = back_at w32 l.reading.result c.struct_told.given.0.1 in
+returns c = let l = c.args.l in
+    let r = back_at w32 l.reading.result c.struct_told-1.given.0.1 in
     let s = back_at w32 l.shown c.struct_told-2-1.given.1.1.1.1.0.1 in
     let p1 = rw r at c.put_word-p1.ensures in
     let p2 = rw s at c.put_word-p2.ensures in

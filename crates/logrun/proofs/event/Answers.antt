@@ -7,13 +7,12 @@ use Rattle.lines.specs.CountLaws.{next_count-range}
 use Rattle.logrun.proofs.event.Goals as goal
 
 pub event_line-end-requires : goal.event_line-end-requires
-event_line-end-requires c =
-    let n = c.before.before.before.before.before.before in
-    let start = n.before.before in
+event_line-end-requires c = let n = c in
+    let start = n in
     (omega arith, rw n.next_count-count.ensures (next_count-range start.args.c.count start.requires.0.count))
 
 pub returns : goal.returns
 unfolding after_taken text_taken answer_of
-returns c = let s = c.advance-o.ensures.0 in
+returns c = let s = c.advance-o.ensures.is in
     let n = c.next_count-count.ensures in
     (rw (n, ← s), rw (n, s) at c.event_line-end.ensures)

@@ -6,7 +6,6 @@ use borrow.Author.Rules.{rules}
 use Rattle.logrun.proofs.finish.Goals as goal
 
 pub returns : goal.returns
-returns c =
-    let start = c.before.before.before.before.before.before in
+returns c = let start = c in
     let put = rw c.number_at_end.ensures at c.end_line.ensures in
     (put, put-within put longest (end-line-at-most _) (omega arith))

@@ -6,9 +6,8 @@ use borrow.Author.Rules.{rules}
 use Rattle.logrun.proofs.load.Goals as goal
 
 pub returns-then-bytes-lt-TABLE_BYTES : goal.returns-then-bytes-lt-TABLE_BYTES
-returns-then-bytes-lt-TABLE_BYTES c =
-    let start = c.before.before.before.before in
-    (c.load.ensures.0 ∙ not-104-words _ (λ e. omega (arith, e)) ∙ sym (short-input start.args.bytes.now c.if-bytes-lt-TABLE_BYTES.true), c.load.ensures.1)
+returns-then-bytes-lt-TABLE_BYTES c = let start = c in
+    (c.load.ensures.is ∙ not-104-words _ (λ e. omega (arith, e)) ∙ sym (short-input start.args.bytes.now c.if-bytes-lt-TABLE_BYTES.true), c.load.ensures.valid)
 
 pub returns : goal.returns
-returns c = (c.load-2.ensures.0 ∙ rw c.table_of-t.ensures, c.load-2.ensures.1)
+returns c = (c.load-2.ensures.is ∙ rw c.table_of-t.ensures, c.load-2.ensures.valid)

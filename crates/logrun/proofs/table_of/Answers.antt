@@ -58,8 +58,7 @@ pub loop-k-smaller : goal.loop-k-smaller
 loop-k-smaller c = omega arith
 
 pub loop-k-preserved : goal.loop-k-preserved
-loop-k-preserved c =
-    let l = c.loop-k in
+loop-k-preserved c = let l = c.loop-k in
     let bytes = c.args.bytes.now in
     let w = c.word_at in
     let z = c.signed.result in
@@ -71,6 +70,5 @@ loop-k-preserved c =
 
 pub returns : goal.returns
 unfolding table_of
-returns c =
-    let l = c.loop-k in
+returns c = let l = c.loop-k in
     sym (l.invariant.2 ∙ table_done c.args.bytes.now l.t l.k (omega arith) l.invariant.1)

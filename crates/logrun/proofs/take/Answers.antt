@@ -7,15 +7,13 @@ use borrow.Author.Rules.{rules}
 use Rattle.logrun.proofs.take.Goals as goal
 
 pub returns-then-c-ne0 : goal.returns-then-c-ne0
-returns-then-c-ne0 c =
-    let start = c.before.before.before in
+returns-then-c-ne0 c = let start = c in
     let p = progress_of start.args.t.now start.args.c in
     let e = ne_eqb p.refusal 0 c.if-c-ne0.true in
     (rw (fed-ended p start.args.w e), (rw (text-ended p start.args.w e) (put-none start.args.out.now start.args.at), start.requires.0))
 
 pub returns-in-Happened : goal.returns-in-Happened
-returns-in-Happened c =
-    let start = c.before.before.before.before.before.before.before.before.before.before.before.before.before.before in
+returns-in-Happened c = let start = c in
     let p = progress_of start.args.t.now start.args.c in
     let w = start.args.w in
     let s = c.take-s in
@@ -27,20 +25,18 @@ returns-in-Happened c =
 
 pub returns-in-Nothing : goal.returns-in-Nothing
 unfolding after_taken text_taken
-returns-in-Nothing c =
-    let start = c.before.before.before.before.before.before.before.before.before in
+returns-in-Nothing c = let start = c in
     let p = progress_of start.args.t.now start.args.c in
     let w = start.args.w in
     let s = c.take-s in
     let e = eq-eqb p.refusal 0 c.if-c-ne0.false in
-    let f = fed_by p w s.result _ e s.ensures c.enum_told.given.1 in
-    let g = text-by p w s.result _ e s.ensures c.enum_told.given.1 in
+    let f = fed_by p w s.result _ e s.ensures c.enum_told-1.given.1 in
+    let g = text-by p w s.result _ e s.ensures c.enum_told-1.given.1 in
     (rw (f, c.quiet.ensures), (rw (g, c.quiet.ensures) (put-none start.args.out.now start.args.at), rw c.quiet.ensures (record { state = start.requires.0.state; count = start.requires.0.count })))
 
 pub returns-in-Refused : goal.returns-in-Refused
 unfolding after_taken text_taken
-returns-in-Refused c =
-    let start = c.before.before.before.before.before.before.before.before.before.before in
+returns-in-Refused c = let start = c in
     let p = progress_of start.args.t.now start.args.c in
     let w = start.args.w in
     let s = c.take-s in

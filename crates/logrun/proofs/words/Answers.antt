@@ -46,8 +46,7 @@ pub take-r-requires : goal.take-r-requires
 take-r-requires c = (c.loop-i.invariant.1, omega arith)
 
 pub overflow_add-i-in-loop-i-4 : goal.overflow_add-i-in-loop-i-4
-overflow_add-i-in-loop-i-4 c =
-    let turn = c.before.before.before.before.before.before.before.before.before.before.before in
+overflow_add-i-in-loop-i-4 c = let turn = c in
     let bytes = turn.well_formed.1.1.0 in
     omega (arith, turn.loop-i-test.true, bytes.1)
 
@@ -55,10 +54,9 @@ pub loop-i-smaller : goal.loop-i-smaller
 loop-i-smaller c = omega arith
 
 pub loop-i-preserved : goal.loop-i-preserved
-loop-i-preserved c =
-    let turn = c.before.before.before.before.before.before.before.before.before.before.before in
+loop-i-preserved c = let turn = c in
     let l = turn.loop-i in
-    let start = turn.before.before.before.before in
+    let start = turn in
     let bytes = start.args.bytes.now in
     let w = c.take-r in
     let read = c.word_at-w in
@@ -83,8 +81,7 @@ pub shape_of-out : goal.shape_of-out
 shape_of-out c = c.loop-i.invariant.3
 
 pub returns : goal.returns
-returns c =
-    let l = c.loop-i in
+returns c = let l = c.loop-i in
     let args = c.args in
     let bytes = args.bytes.now in
     let p = progress_of l.t l.course in

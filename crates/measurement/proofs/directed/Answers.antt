@@ -9,26 +9,32 @@ use lib.Dec.{lit<}
 use lib.Pow.{pow_pos, pow_mono, shl_exact}
 use Rattle.measurement.specs.Measure.{directed_of}
 use Rattle.measurement.proofs.directed.Goals as goal
-use Rattle.measurement.proofs.directed.Tie as tie
-
--- M
-m-is : (s : tie.Start) → 1 * 2 ^ s.args.width % 2 ^ 64 ≡ 2 ^ s.args.width
-m-is s = shl_exact 1 s.args.width 64 (lit< tt) (omega arith) ∙ one-mul (2 ^ s.args.width)
 
 pub overflow_sub-q : goal.overflow_sub-q
-overflow_sub-q c = rw (m-is c.before) (omega arith)
+overflow_sub-q c =
+    let m-is : 1 * 2 ^ c.args.width % 2 ^ 64 ≡ 2 ^ c.args.width =
+    shl_exact 1 c.args.width 64 (lit< tt) (omega arith) ∙ one-mul (2 ^ c.args.width) in
+    rw (m-is) (omega arith)
 
 pub nonzero_rem-q : goal.nonzero_rem-q
-nonzero_rem-q c = rw (m-is c.before) (pow_pos c.args.width)
+nonzero_rem-q c =
+    let m-is : 1 * 2 ^ c.args.width % 2 ^ 64 ≡ 2 ^ c.args.width =
+    shl_exact 1 c.args.width 64 (lit< tt) (omega arith) ∙ one-mul (2 ^ c.args.width) in
+    rw (m-is) (pow_pos c.args.width)
 
 pub overflow_cast-result : goal.overflow_cast-result
 overflow_cast-result c =
-    let s = c.before in
-    rw (m-is s) (record { fits = lt_of_lt_of_le (mod-lt (2 ^ s.args.width - s.args.p) (pow_pos s.args.width)) (pow_mono {j = 32} s.requires.0) })
+    let m-is : 1 * 2 ^ c.args.width % 2 ^ 64 ≡ 2 ^ c.args.width =
+    shl_exact 1 c.args.width 64 (lit< tt) (omega arith) ∙ one-mul (2 ^ c.args.width) in
+    let s = c in
+    rw (m-is) (record { fits = lt_of_lt_of_le (mod-lt (2 ^ s.args.width - s.args.p) (pow_pos s.args.width)) (pow_mono {j = 32} s.requires.0) })
 
 pub returns-then-reverse-eq1 : goal.returns-then-reverse-eq1
 unfolding directed_of
-returns-then-reverse-eq1 c = rw (m-is c.before, eq-eqb _ _ c.if-reverse-eq1.true)
+returns-then-reverse-eq1 c =
+    let m-is : 1 * 2 ^ c.args.width % 2 ^ 64 ≡ 2 ^ c.args.width =
+    shl_exact 1 c.args.width 64 (lit< tt) (omega arith) ∙ one-mul (2 ^ c.args.width) in
+    rw (m-is, eq-eqb _ _ c.if-reverse-eq1.true)
 
 pub returns : goal.returns
 unfolding directed_of

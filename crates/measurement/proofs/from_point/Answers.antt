@@ -13,101 +13,163 @@ use Rattle.integers.specs.Fraction.{rounded}
 use Rattle.measurement.specs.SearchLaws.{found_at, value-last, value-words, on-words}
 use Rattle.measurement.proofs.from_point.Goals as goal
 
--- the words of point i are there, and those of the next if there is one
-here : (s : goal.Start) → 2 * s.args.i + 2 ≤ length s.args.points.now
-here s = omega (arith, (found_at _ _ _ _ s.requires.1).used, s.requires.0.long)
-
 pub overflow_mul-k : goal.overflow_mul-k
-overflow_mul-k c = let h = here c in search rules
+overflow_mul-k c =
+    let here : 2 * c.args.i + 2 ≤ length c.args.points.now =
+    omega (arith, (found_at _ _ _ _ c.requires.1).used, c.requires.0.long) in
+    let h = here in search rules
 
 pub overflow_add-i : goal.overflow_add-i
-overflow_add-i c = let h = here c in search rules
+overflow_add-i c =
+    let here : 2 * c.args.i + 2 ≤ length c.args.points.now =
+    omega (arith, (found_at _ _ _ _ c.requires.1).used, c.requires.0.long) in
+    let h = here in search rules
 
 pub overflow_add-k : goal.overflow_add-k
-overflow_add-k c = let h = here c.before in search rules
+overflow_add-k c =
+    let here : 2 * c.args.i + 2 ≤ length c.args.points.now =
+    omega (arith, (found_at _ _ _ _ c.requires.1).used, c.requires.0.long) in
+    let h = here in search rules
 
 pub offset_bounds-points-k : goal.offset_bounds-points-k
-offset_bounds-points-k c = let h = here c.before in search rules
+offset_bounds-points-k c =
+    let here : 2 * c.args.i + 2 ≤ length c.args.points.now =
+    omega (arith, (found_at _ _ _ _ c.requires.1).used, c.requires.0.long) in
+    let h = here in search rules
 
 pub bounds-points-k : goal.bounds-points-k
-bounds-points-k c = let h = here c.before in search rules
+bounds-points-k c =
+    let here : 2 * c.args.i + 2 ≤ length c.args.points.now =
+    omega (arith, (found_at _ _ _ _ c.requires.1).used, c.requires.0.long) in
+    let h = here in search rules
 
 pub overflow_cast-points : goal.overflow_cast-points
-overflow_cast-points c =
-    let f : SFits w32 (get_or c.args.points.now (2 * c.args.i + 1) (pos 0)) = record { sfits = c.whole-arg.given } in
+overflow_cast-points c = let f : SFits w32 (get_or c.args.points.now (2 * c.args.i + 1) (pos 0)) = record { sfits = c.whole-arg-1.given } in
     omega (arith, ints)
 
 pub returns-then-i-n : goal.returns-then-i-n
-returns-then-i-n c =
-    let s = c.before.before.before in
+returns-then-i-n c = let s = c in
     let ws = s.args.points.now in
-    let e = rw (to_z-of_z (overflow_cast-points c.before), back_at w32 (get_or ws (2 * s.args.i + 1) (pos 0)) c.whole-arg.given) at c.whole.ensures in
+    let e = rw (to_z-of_z (overflow_cast-points c.before), back_at w32 (get_or ws (2 * s.args.i + 1) (pos 0)) c.whole-arg-1.given) at c.whole.ensures in
     e ∙ ap rounded (sym (value-last s.requires.0 s.args.v s.args.i s.requires.1 c.if-i-n.true))
 
-more : (c : goal.Else-i-n) → c.args.i + 1 < c.args.n
-more c = omega (arith, c.if-i-n.false, (found_at _ _ _ _ c.requires.1).used)
-
-both : (c : goal.Else-i-n) → 2 * c.args.i + 4 ≤ length c.args.points.now
-both c = omega (arith, more c, c.requires.0.long)
-
 pub offset_bounds-points-k-2 : goal.offset_bounds-points-k-2
-offset_bounds-points-k-2 c = let h = both c in search rules
+offset_bounds-points-k-2 c =
+    let more : c.args.i + 1 < c.args.n =
+    omega (arith, c.if-i-n.false, (found_at _ _ _ _ c.requires.1).used) in
+    let both : 2 * c.args.i + 4 ≤ length c.args.points.now =
+    omega (arith, more, c.requires.0.long) in
+    let h = both in search rules
 
 pub bounds-points-k-2 : goal.bounds-points-k-2
-bounds-points-k-2 c = let h = both c in omega arith
+bounds-points-k-2 c =
+    let more : c.args.i + 1 < c.args.n =
+    omega (arith, c.if-i-n.false, (found_at _ _ _ _ c.requires.1).used) in
+    let both : 2 * c.args.i + 4 ≤ length c.args.points.now =
+    omega (arith, more, c.requires.0.long) in
+    let h = both in omega arith
 
 pub overflow_add-k-2 : goal.overflow_add-k-2
-overflow_add-k-2 c = let h = both c.before in search rules
+overflow_add-k-2 c =
+    let more : c.args.i + 1 < c.args.n =
+    omega (arith, c.if-i-n.false, (found_at _ _ _ _ c.requires.1).used) in
+    let both : 2 * c.args.i + 4 ≤ length c.args.points.now =
+    omega (arith, more, c.requires.0.long) in
+    let h = both in search rules
 
 pub offset_bounds-points-k-3 : goal.offset_bounds-points-k-3
-offset_bounds-points-k-3 c = let h = both c.before in search rules
+offset_bounds-points-k-3 c =
+    let more : c.args.i + 1 < c.args.n =
+    omega (arith, c.if-i-n.false, (found_at _ _ _ _ c.requires.1).used) in
+    let both : 2 * c.args.i + 4 ≤ length c.args.points.now =
+    omega (arith, more, c.requires.0.long) in
+    let h = both in search rules
 
 pub bounds-points-k-3 : goal.bounds-points-k-3
-bounds-points-k-3 c = let h = both c.before in omega arith
+bounds-points-k-3 c =
+    let more : c.args.i + 1 < c.args.n =
+    omega (arith, c.if-i-n.false, (found_at _ _ _ _ c.requires.1).used) in
+    let both : 2 * c.args.i + 4 ≤ length c.args.points.now =
+    omega (arith, more, c.requires.0.long) in
+    let h = both in omega arith
 
 pub overflow_add-k-3 : goal.overflow_add-k-3
-overflow_add-k-3 c = let h = both c.before.before in search rules
+overflow_add-k-3 c =
+    let more : c.args.i + 1 < c.args.n =
+    omega (arith, c.if-i-n.false, (found_at _ _ _ _ c.requires.1).used) in
+    let both : 2 * c.args.i + 4 ≤ length c.args.points.now =
+    omega (arith, more, c.requires.0.long) in
+    let h = both in search rules
 
 pub offset_bounds-points-k-4 : goal.offset_bounds-points-k-4
-offset_bounds-points-k-4 c = let h = both c.before.before in search rules
+offset_bounds-points-k-4 c =
+    let more : c.args.i + 1 < c.args.n =
+    omega (arith, c.if-i-n.false, (found_at _ _ _ _ c.requires.1).used) in
+    let both : 2 * c.args.i + 4 ≤ length c.args.points.now =
+    omega (arith, more, c.requires.0.long) in
+    let h = both in search rules
 
 pub bounds-points-k-4 : goal.bounds-points-k-4
-bounds-points-k-4 c = let h = both c.before.before in omega arith
+bounds-points-k-4 c =
+    let more : c.args.i + 1 < c.args.n =
+    omega (arith, c.if-i-n.false, (found_at _ _ _ _ c.requires.1).used) in
+    let both : 2 * c.args.i + 4 ≤ length c.args.points.now =
+    omega (arith, more, c.requires.0.long) in
+    let h = both in omega arith
 
 pub overflow_add-k-4 : goal.overflow_add-k-4
-overflow_add-k-4 c = let h = both c.before.before.before in search rules
+overflow_add-k-4 c =
+    let more : c.args.i + 1 < c.args.n =
+    omega (arith, c.if-i-n.false, (found_at _ _ _ _ c.requires.1).used) in
+    let both : 2 * c.args.i + 4 ≤ length c.args.points.now =
+    omega (arith, more, c.requires.0.long) in
+    let h = both in search rules
 
 pub offset_bounds-points-k-5 : goal.offset_bounds-points-k-5
-offset_bounds-points-k-5 c = let h = both c.before.before.before in search rules
+offset_bounds-points-k-5 c =
+    let more : c.args.i + 1 < c.args.n =
+    omega (arith, c.if-i-n.false, (found_at _ _ _ _ c.requires.1).used) in
+    let both : 2 * c.args.i + 4 ≤ length c.args.points.now =
+    omega (arith, more, c.requires.0.long) in
+    let h = both in search rules
 
 pub bounds-points-k-5 : goal.bounds-points-k-5
-bounds-points-k-5 c = let h = both c.before.before.before in omega arith
+bounds-points-k-5 c =
+    let more : c.args.i + 1 < c.args.n =
+    omega (arith, c.if-i-n.false, (found_at _ _ _ _ c.requires.1).used) in
+    let both : 2 * c.args.i + 4 ≤ length c.args.points.now =
+    omega (arith, more, c.requires.0.long) in
+    let h = both in omega arith
 
 pub on_line-requires : goal.on_line-requires
 on_line-requires c =
-    let s = c.before.before.before.before.before in
+    let more : c.args.i + 1 < c.args.n =
+    omega (arith, c.if-i-n.false, (found_at _ _ _ _ c.requires.1).used) in
+    let s = c in
     let i = s.args.i in
     let ws = s.args.points.now in
     rw (
-      back_at w32 (get_or ws (2 * i) (pos 0)) c.on-line-arg.given,
+      back_at w32 (get_or ws (2 * i) (pos 0)) c.on_line-arg-1.given,
       back_at w32 (get_or ws (2 * i + 1) (pos 0)) c.on_line-arg-2-1.given,
       back_at w32 (get_or ws (2 * i + 2) (pos 0)) c.on_line-arg-3-1.given,
       back_at w32 (get_or ws (2 * i + 3) (pos 0)) c.on_line-arg-4-1.given,
       to_z-of_z s.ranges.v,
     )
-    (on-words s.requires.0 s.args.v i s.requires.1 (more c.before.before.before.before))
+    (on-words s.requires.0 s.args.v i s.requires.1 (more))
 
 pub returns : goal.returns
 returns c =
-    let b = c.before in
-    let s = b.before.before.before.before.before in
+    let more : c.args.i + 1 < c.args.n =
+    omega (arith, c.if-i-n.false, (found_at _ _ _ _ c.requires.1).used) in
+    let b = c in
+    let s = b in
     let i = s.args.i in
     let ws = s.args.points.now in
     let e = rw (
-      back_at w32 (get_or ws (2 * i) (pos 0)) b.on-line-arg.given,
+      back_at w32 (get_or ws (2 * i) (pos 0)) b.on_line-arg-1.given,
       back_at w32 (get_or ws (2 * i + 1) (pos 0)) b.on_line-arg-2-1.given,
       back_at w32 (get_or ws (2 * i + 2) (pos 0)) b.on_line-arg-3-1.given,
       back_at w32 (get_or ws (2 * i + 3) (pos 0)) b.on_line-arg-4-1.given,
       to_z-of_z s.ranges.v,
     ) at c.on_line.ensures in
-    e ∙ sym (value-words s.requires.0 s.args.v i s.requires.1 (more b.before.before.before.before))
+    e ∙ sym (value-words s.requires.0 s.args.v i s.requires.1 (more))

@@ -14,7 +14,6 @@ use Rattle.measurement.specs.Curve.{point_at, highest_of}
 use Rattle.measurement.specs.SearchLaws.{last-first}
 use Rattle.measurement.specs.declared.Found.TheVariants.{At}
 use Rattle.measurement.proofs.highest.Goals as goal
-use Rattle.measurement.proofs.highest.Tie as tie
 
 pub loop-left-init : goal.loop-left-init
 loop-left-init c = (omega arith, refl)
@@ -25,36 +24,23 @@ overflow_sub-i c = omega arith
 pub x_of-requires : goal.x_of-requires
 x_of-requires c = omega arith
 
--- the x of the last point left
-abbrev last_x : goal.In-loop-left → ℤ
-last_x c = (point_at c.args.points.now (c.loop-left.false - 1)).x
-
--- the point looked at is that one
-last-looked-at : (c : tie.After-x_of) → bk w64 c.x_of.result ≡ last_x c.before
-last-looked-at c = back_at w64 c.x_of.result c.x_of.type_inv ∙ c.x_of.ensures
-
--- whether it is at most v, by the definition, and what the code's test says of it
-abbrev last_fits : goal.In-loop-left → Bool
-last_fits c = le_z (last_x c) (bk w64 c.args.v)
-
-passed : (c : goal.Else-x_of-v) → last_fits c.before.before ≡ false
-passed c = rw (last-looked-at c.before) at c.if-x_of-v.false
-
-fitting : (c : goal.Then-x_of-v) → last_fits c.before.before ≡ true
-fitting c = rw (last-looked-at c.before) at c.if-x_of-v.true
-
--- the search among the points that are left looks at it first
-first-look : (c : goal.In-loop-left) →
-    let s = c.before.before in
+pub returns-then-x_of-v : goal.returns-then-x_of-v
+returns-then-x_of-v c =
+    let last_x : ℤ =
+    (point_at c.args.points.now (c.loop-left.false - 1)).x in
+    let last-looked-at : bk w64 c.x_of.result ≡ last_x =
+    back_at w64 c.x_of.result c.x_of.type_inv ∙ c.x_of.ensures in
+    let last_fits : Bool =
+    le_z (last_x) (bk w64 c.args.v) in
+    let fitting : last_fits ≡ true =
+    rw (last-looked-at) at c.if-x_of-v.true in
+    let first-look : let s = c in
     let ws = s.args.points.now in
     let left = c.loop-left.false in
     let v = bk w64 s.args.v in
-    cond (last_fits c) (At (left - 1)) (highest_of ws (left - 1) v) ≡ highest_of ws s.args.n v
-first-look c = let l = c.loop-left in sym (last-first _ l.false _ (omega arith)) ∙ l.invariant.1
-
-pub returns-then-x_of-v : goal.returns-then-x_of-v
-returns-then-x_of-v c =
-    let e = rw (fitting c) at (first-look c.before.before) in
+    cond (last_fits) (At (left - 1)) (highest_of ws (left - 1) v) ≡ highest_of ws s.args.n v =
+    let l = c.loop-left in sym (last-first _ l.left _ (omega arith)) ∙ l.invariant.1 in
+    let e = rw (fitting) at (first-look) in
     rw (to_z-of_z c.ranges.v) at e
 
 pub overflow_sub-left : goal.overflow_sub-left
@@ -64,12 +50,26 @@ pub loop-left-smaller : goal.loop-left-smaller
 loop-left-smaller c = omega arith
 
 pub loop-left-preserved : goal.loop-left-preserved
-loop-left-preserved c = (omega arith, rw (passed c) at (first-look c.before.before))
+loop-left-preserved c =
+    let last_x : ℤ =
+    (point_at c.args.points.now (c.loop-left.false - 1)).x in
+    let last-looked-at : bk w64 c.x_of.result ≡ last_x =
+    back_at w64 c.x_of.result c.x_of.type_inv ∙ c.x_of.ensures in
+    let last_fits : Bool =
+    le_z (last_x) (bk w64 c.args.v) in
+    let passed : last_fits ≡ false =
+    rw (last-looked-at) at c.if-x_of-v.false in
+    let first-look : let s = c in
+    let ws = s.args.points.now in
+    let left = c.loop-left.false in
+    let v = bk w64 s.args.v in
+    cond (last_fits) (At (left - 1)) (highest_of ws (left - 1) v) ≡ highest_of ws s.args.n v =
+    let l = c.loop-left in sym (last-first _ l.left _ (omega arith)) ∙ l.invariant.1 in
+    (omega arith, rw (passed) at (first-look))
 
 pub returns : goal.returns
 unfolding highest_of
-returns c =
-    let l = c.loop-left in
-    let e : l.false ≡ 0 = omega arith in
+returns c = let l = c.loop-left in
+    let e : l.left ≡ 0 = omega arith in
     let z = rw e at l.invariant.1 in
     rw (to_z-of_z c.ranges.v) at z

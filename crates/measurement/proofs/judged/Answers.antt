@@ -14,14 +14,12 @@ returns-then-reported c = simp (c.faulty.ensures, c.if-reported.true)
 
 pub returns-then-v-gt-Z : goal.returns-then-v-gt-Z
 unfolding judged_of
-returns-then-v-gt-Z c =
-    let t = simp (to_z-of_z, c.ranges.v) at c.if-v-gt-Z.true in
+returns-then-v-gt-Z c = let t = simp (to_z-of_z, c.ranges.v) at c.if-v-gt-Z.true in
     simp (c.faulty-then-v-gt-Z.ensures, c.if-reported.false, t)
 
 pub returns-then-v : goal.returns-then-v
 unfolding judged_of
-returns-then-v c =
-    let f = c.ranges.v in
+returns-then-v c = let f = c.ranges.v in
     let t = simp (to_z-of_z, f) at c.if-v-gt-Z.false in
     let u = simp (to_z-of_z, f) at c.if-v.true in
     simp (c.faulty-then-v.ensures, c.if-reported.false, t, u)
@@ -31,8 +29,7 @@ overflow_cast-result c = omega (arith, ints, fit c.ranges.v)
 
 pub returns : goal.returns
 unfolding judged_of
-returns c =
-    let f = c.ranges.v in
+returns c = let f = c.ranges.v in
     let t = simp (to_z-of_z, f) at c.if-v-gt-Z.false in
     let u = simp (to_z-of_z, f) at c.if-v.false in
     let g : SFits w32 c.args.v = omega (arith, ints, fit f) in

@@ -10,8 +10,7 @@ use Rattle.measurement.specs.SearchLaws.{usable, curve-four}
 use Rattle.measurement.proofs.linearized.Goals as goal
 
 pub one_quadrant-requires : goal.one_quadrant-requires
-one_quadrant-requires c =
-    let s = c.before in
+one_quadrant-requires c = let s = c in
     (usable s.args.mode (λ e. omega (arith, e, c.in-1.is)) s.requires.0, kept s.ranges.v s.requires.1)
 
 pub four_quadrants-requires : goal.four_quadrants-requires
@@ -27,7 +26,6 @@ returns-in-1 c = rw c.in-1.is (rw (to_z-of_z c.ranges.v) at c.one_quadrant.ensur
 
 pub returns-in_default : goal.returns-in_default
 unfolding linearized_by
-returns-in_default c =
-    let s = c.before.before in
+returns-in_default c = let s = c in
     let m = c.match.rest in
     (rw (to_z-of_z s.ranges.v) at c.four_quadrants.ensures) ∙ sym (ap rounded (curve-four s.args.mode _ _ m.0.1 m.1))

@@ -18,16 +18,14 @@ four_quadrants-mirrored-requires c = c.requires.0
 
 pub overflow_sub-value : goal.overflow_sub-value
 unfolding rounding
-overflow_sub-value c =
-    let s = c.before.before.before.before in
+overflow_sub-value c = let s = c in
     let f = c.four_quadrants-mirrored in
     let w = four-within s.requires.0 (bk w64 (pos 0 -ℤ bk w64 s.args.v)) in
     let v : bk w64 f.result.value ≡ f.result.value = search rules in
     rw (v, f.ensures) (omega (arith, ints, w.above, w.below))
 
 pub returns-then-v-lt0 : goal.returns-then-v-lt0
-returns-then-v-lt0 c =
-    let s = c.before.before.before.before in
+returns-then-v-lt0 c = let s = c in
     let f = c.four_quadrants-mirrored in
     let t = rw (to_z-of_z s.ranges.v) at c.if-v-lt0.true in
     let e = rw (to_z-of_z (overflow_sub-v c.before.before.before), to_z-of_z s.ranges.v) at f.ensures in
@@ -38,8 +36,7 @@ pub four_quadrants-requires : goal.four_quadrants-requires
 four_quadrants-requires c = c.requires.0
 
 pub returns : goal.returns
-returns c =
-    let s = c.before.before in
+returns c = let s = c in
     let f = c.four_quadrants in
     let t = rw (to_z-of_z s.ranges.v) at c.if-v-lt0.false in
     (rw (to_z-of_z s.ranges.v) at f.ensures) ∙ sym (one-positive _ s.args.v t)

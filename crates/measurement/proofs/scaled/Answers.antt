@@ -14,18 +14,15 @@ use Rattle.integers.specs.RoundLaws.{round-within}
 use Rattle.measurement.specs.MeasureLaws.{scaled-is}
 use Rattle.measurement.proofs.scaled.Goals as goal
 
--- the factor as the code reads it, and its size
-factor-is : (s : goal.Start) → to_z w64 s.args.factor ≡ pos s.args.factor
-factor-is s = to_z_pos w64 {n = s.args.factor} (omega arith)
-
-factor-size : (s : goal.Start) → Within 9999999 (to_z w64 s.args.factor)
-factor-size s = rw (factor-is s) (record { above = s.requires.1; below = omega arith })
-
-d-size : (s : goal.Start) → Within 4394967294 (bk w64 s.args.d)
-d-size s = kept s.ranges.d s.requires.0
-
 pub overflow_mul-d : goal.overflow_mul-d
-overflow_mul-d c = mul-fits (d-size c) (factor-size c) (lit< tt)
+overflow_mul-d c =
+    let factor-is : to_z w64 c.args.factor ≡ pos c.args.factor =
+    to_z_pos w64 {n = c.args.factor} (omega arith) in
+    let factor-size : Within 9999999 (to_z w64 c.args.factor) =
+    rw (factor-is) (record { above = c.requires.1; below = omega arith }) in
+    let d-size : Within 4394967294 (bk w64 c.args.d) =
+    kept c.ranges.d c.requires.0 in
+    mul-fits (d-size) (factor-size) (lit< tt)
 
 pub overflow_cast-value : goal.overflow_cast-value
 overflow_cast-value c = omega (arith, ints)
@@ -33,17 +30,25 @@ overflow_cast-value c = omega (arith, ints)
 pub overflow_add-value : goal.overflow_add-value
 unfolding rounding
 overflow_add-value c =
-    let s = c.before.before.before in
+    let factor-is : to_z w64 c.args.factor ≡ pos c.args.factor =
+    to_z_pos w64 {n = c.args.factor} (omega arith) in
+    let factor-size : Within 9999999 (to_z w64 c.args.factor) =
+    rw (factor-is) (record { above = c.requires.1; below = omega arith }) in
+    let d-size : Within 4394967294 (bk w64 c.args.d) =
+    kept c.ranges.d c.requires.0 in
+    let s = c in
     let q = c.round_div-q in
-    let w = round-within (to_z w64 s.args.divider) (kept (overflow_mul-d s) (mul-within (d-size s) (factor-size s))) in
+    let w = round-within (to_z w64 s.args.divider) (kept (overflow_mul-d s) (mul-within (d-size) (factor-size))) in
     let v : bk w64 q.result.value ≡ q.result.value = search rules in
     rw (v, q.ensures) (omega (arith, ints, w.above, w.below, fit (overflow_cast-value c.before.before)))
 
 pub returns : goal.returns
 returns c =
-    let s = c.before.before.before in
+    let factor-is : to_z w64 c.args.factor ≡ pos c.args.factor =
+    to_z_pos w64 {n = c.args.factor} (omega arith) in
+    let s = c in
     let q = c.round_div-q in
-    let e = rw (to_z-of_z (overflow_mul-d s), to_z-of_z s.ranges.d, factor-is s, to_z_pos w64 {n = s.args.divider} (omega arith)) at q.ensures in
+    let e = rw (to_z-of_z (overflow_mul-d s), to_z-of_z s.ranges.d, factor-is, to_z_pos w64 {n = s.args.divider} (omega arith)) at q.ensures in
     let v : bk w64 q.result.value ≡ q.result.value = search rules in
     rw (to_z-of_z (overflow_add-value c), v, to_z-of_z (overflow_cast-value c.before.before), to_z-of_z s.ranges.additive)
     (scaled-is s.args.d s.args.factor s.args.divider s.args.additive q.result e)

@@ -7,12 +7,14 @@ use Rattle.integers.specs.IntLaws.{again}
 use Rattle.measurement.specs.Curve.{point_at}
 use Rattle.measurement.proofs.x_of.Goals as goal
 
--- the word that is read fits 32 bits
-fits : (c : goal.After-result-1) → SFits w32 (point_at c.args.points.now c.args.i).x
-fits c = record { sfits = c.result.given }
-
 pub overflow_cast-result : goal.overflow_cast-result
-overflow_cast-result c = sfits_widen {w = w32} tt (again (fits c))
+overflow_cast-result c =
+    let fits : SFits w32 (point_at c.args.points.now c.args.i).x =
+    record { sfits = c.result-1.given } in
+    sfits_widen {w = w32} tt (again (fits))
 
 pub returns : goal.returns
-returns c = rw (to_z-of_z (overflow_cast-result c), to_z-of_z (fits c))
+returns c =
+    let fits : SFits w32 (point_at c.args.points.now c.args.i).x =
+    record { sfits = c.result-1.given } in
+    rw (to_z-of_z (overflow_cast-result c), to_z-of_z (fits))

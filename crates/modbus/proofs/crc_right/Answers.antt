@@ -15,9 +15,8 @@ returns-then-f-lt2 c = rw (lt-leb _ _ c.if-f-lt2.true)
 
 pub returns : goal.returns
 unfolding crc_right
-returns c =
-    let n = c.before.before in
-    let s = n.before.before.before in
+returns c = let n = c in
+    let s = n in
     let l = length s.args.f.now in
     let e : l - 2 + 1 ≡ l - 1 = omega (arith, s.if-f-lt2.false) in
     rw (le-leb _ _ s.if-f-lt2.false, n.number_of_lem.ensures, c.crc.ensures, e)

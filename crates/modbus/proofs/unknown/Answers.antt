@@ -9,8 +9,7 @@ use Rattle.modbus.proofs.unknown.Goals as goal
 
 pub returns-then-f-lt2 : goal.returns-then-f-lt2
 unfolding is_unknown
-returns-then-f-lt2 c =
-    let f = c.args.f.now in
+returns-then-f-lt2 c = let f = c.args.f.now in
     let short : length f ≤ 1 = omega arith in
     rw (get_or-eq_default f 0 short)
 

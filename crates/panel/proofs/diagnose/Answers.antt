@@ -6,8 +6,7 @@ use Rattle.settings.specs.SettingsLaws.{layout-sound}
 use Rattle.panel.proofs.diagnose.Goals as goal
 
 pub diagnose-requires : goal.diagnose-requires
-diagnose-requires c =
-    let b = c.before in
+diagnose-requires c = let b = c in
     let v = b.requires in
     let r = bits-per-turn-range v in
     rw (b.layout.ensures, c.bits_per_turn.ensures) (layout-sound v, omega (arith, r), omega (arith, r))

@@ -6,5 +6,5 @@ pub recorded-next-requires : goal.recorded-next-requires
 recorded-next-requires c = rw c.with_switches.ensures c.requires
 
 pub returns : goal.returns
-returns c = let n = c.before in
+returns c = let n = c in
     rw (c.recorded-next.ensures, n.with_switches.ensures, n.tick_all.ensures)

@@ -7,10 +7,10 @@ use Rattle.panel.proofs.settle.Goals as goal
 
 pub returns : goal.returns
 unfolding switched_of displayed_of
-returns c = let sh = c.before in
-    let sw = sh.before.before.before in
+returns c = let sh = c in
+    let sw = sh in
     let l = sw.args.l in
-    let r = back_at w32 l.reading.result sw.struct_told.given.0.1 in
+    let r = back_at w32 l.reading.result sw.struct_told-1.given.0.1 in
     let h = back_at w32 l.shown sh.struct_told-2-1.given.1.1.1.1.0.1 in
     rw (
       c.settled.ensures,

@@ -6,7 +6,6 @@ use Rattle.panel.proofs.step.Goals as goal
 
 pub returns : goal.returns
 unfolding answer_of
-returns c =
-    let a = c.advance-x in
+returns c = let a = c.advance-x in
     let is = c.answered.ensures ∙ a.ensures.0 in
     (is, rw c.answered.ensures a.ensures.1)

@@ -22,13 +22,12 @@ pub slice_bounds-input-end : goal.slice_bounds-input-end
 slice_bounds-input-end c = c.read_full-n.ensures.0
 
 pub run_piece-r-requires : goal.run_piece-r-requires
-run_piece-r-requires c =
-    let l = c.loop-turns.invariant in
+run_piece-r-requires c = let l = c.loop-turns.invariant in
     let read = c.read_full-n in
     (l.0, omega (arith, read.ensures.1, read.ensures.0, c.input-in-loop-turns-1.given, l.1, l.2))
 
 pub slice_bounds-output-end : goal.slice_bounds-output-end
-slice_bounds-output-end c = c.run_piece-r.ensures.1.1.1.1
+slice_bounds-output-end c = c.run_piece-r.ensures.goes.1.1.1
 
 pub write_all-requires : goal.write_all-requires
 write_all-requires c = tt
@@ -43,10 +42,9 @@ pub loop-turns-smaller : goal.loop-turns-smaller
 loop-turns-smaller c = omega arith
 
 pub loop-turns-preserved : goal.loop-turns-preserved
-loop-turns-preserved c =
-    let piece = c.before.before.before.before.before.before in
+loop-turns-preserved c = let piece = c in
     let l = piece.loop-turns.invariant in
-    (piece.run_piece-r.ensures.1.1.1.0, omega (arith, piece.input-in-loop-turns-1.given, l.1), omega (arith, c.output-in-loop-turns-1.given, l.2))
+    (piece.run_piece-r.ensures.goes.1.1.0, omega (arith, piece.input-in-loop-turns-1.given, l.1), omega (arith, c.output-in-loop-turns-1.given, l.2))
 
 pub returns : goal.returns
 returns c = tt

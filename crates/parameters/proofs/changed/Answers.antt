@@ -7,6 +7,5 @@ use lib.Seq.{set_out}
 use Rattle.parameters.proofs.changed.Goals as goal
 
 pub returns-else-slot-lt104 : goal.returns-else-slot-lt104
-returns-else-slot-lt104 c =
-    let long : length c.args.t ≡ 104 = search rules in
+returns-else-slot-lt104 c = let long : length c.args.t ≡ 104 = search rules in
     sym (set_out c.args.t _ _ (omega arith))

@@ -33,7 +33,7 @@ loop-i-smaller c = omega arith
 pub loop-i-preserved : goal.loop-i-preserved
 loop-i-preserved c = let l = c.loop-i in
     let s = c.args.words.now in
-    rw (to_z-of_z {w = w32} (record { sfits = c.t.given })) (
+    rw (to_z-of_z {w = w32} (record { sfits = c.t-1.given })) (
       omega arith,
       length-set l.t l.i (get_or s l.i (pos 0)) ∙ l.invariant.1,
       copy_more l.t s l.i (pos 0) (get_or s l.i (pos 0)) (omega arith) (omega arith) l.invariant.2 refl,

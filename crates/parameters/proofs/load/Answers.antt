@@ -10,32 +10,37 @@ use Rattle.parameters.specs.LoadLaws.{load-length, load-range, load-conflict, lo
 use borrow.Author.Rules.{rules}
 use native.Mathlib.Omega.{arith}
 use Rattle.parameters.proofs.load.Goals as goal
-use Rattle.parameters.proofs.load.Tie as tie
 
 pub returns-then-words-ne104 : goal.returns-then-words-ne104
 returns-then-words-ne104 c = c.refused.ensures ∙ sym (load-length c.args.words.now c.if-words-ne104.true)
 
--- the array holds the words, so what is asked of it is asked of them
-lowest : (s : tie.After-lowest_out-slot) → s.lowest_out-slot.result ≡ lowest_out s.args.words.now
-lowest s = s.lowest_out-slot.ensures ∙ ap (λ (t : List ℤ). lowest_out t) s.filled-t.ensures
-
-first : (n : tie.After-conflict-n) → n.conflict-n.result ≡ first_of 3 (conflicts n.args.words.now)
-first n = n.conflict-n.ensures ∙ ap (λ (t : List ℤ). first_of 3 (conflicts t)) n.filled-t.ensures
-
 pub returns-then-slot-lt104 : goal.returns-then-slot-lt104
-returns-then-slot-lt104 c = let s = c.before.before in
+returns-then-slot-lt104 c =
+    let lowest : c.lowest_out-slot.result ≡ lowest_out c.args.words.now =
+    c.lowest_out-slot.ensures ∙ ap (λ (t : List ℤ). lowest_out t) c.filled-t.ensures in
+    let s = c in
     let w = s.args.words.now in
-    c.refused-then-slot-lt104.ensures ∙ ap (refused_with 2) (lowest s) ∙ sym (load-range w s.if-words-ne104.false (omega (arith, lowest s)))
+    c.refused-then-slot-lt104.ensures ∙ ap (refused_with 2) (lowest) ∙ sym (load-range w s.if-words-ne104.false (omega (arith, lowest)))
 
 pub returns-then-n-ne0 : goal.returns-then-n-ne0
-returns-then-n-ne0 c = let n = c.before.before in
-    let s = n.before.before.before in
+returns-then-n-ne0 c =
+    let lowest : c.lowest_out-slot.result ≡ lowest_out c.args.words.now =
+    c.lowest_out-slot.ensures ∙ ap (λ (t : List ℤ). lowest_out t) c.filled-t.ensures in
+    let first : c.conflict-n.result ≡ first_of 3 (conflicts c.args.words.now) =
+    c.conflict-n.ensures ∙ ap (λ (t : List ℤ). first_of 3 (conflicts t)) c.filled-t.ensures in
+    let n = c in
+    let s = n in
     let w = s.args.words.now in
-    c.refused-then-n-ne0.ensures ∙ ap (λ (m : ℕ). refused_with m 0) (first n)
-    ∙ sym (load-conflict w s.if-words-ne104.false (omega (arith, lowest s)) (λ z. c.if-n-ne0.true (first n ∙ z)))
+    c.refused-then-n-ne0.ensures ∙ ap (λ (m : ℕ). refused_with m 0) (first)
+    ∙ sym (load-conflict w s.if-words-ne104.false (omega (arith, lowest)) (λ z. c.if-n-ne0.true (first ∙ z)))
 
 pub returns : goal.returns
-returns c = let n = c.before in
-    let s = n.before.before.before in
+returns c =
+    let lowest : c.lowest_out-slot.result ≡ lowest_out c.args.words.now =
+    c.lowest_out-slot.ensures ∙ ap (λ (t : List ℤ). lowest_out t) c.filled-t.ensures in
+    let first : c.conflict-n.result ≡ first_of 3 (conflicts c.args.words.now) =
+    c.conflict-n.ensures ∙ ap (λ (t : List ℤ). first_of 3 (conflicts t)) c.filled-t.ensures in
+    let n = c in
+    let s = n in
     let w = s.args.words.now in
-    rw s.filled-t.ensures (sym (load-fine w s.if-words-ne104.false (omega (arith, lowest s)) (sym (first n) ∙ c.if-n-ne0.false)))
+    rw s.filled-t.ensures (sym (load-fine w s.if-words-ne104.false (omega (arith, lowest)) (sym (first) ∙ c.if-n-ne0.false)))

@@ -8,4 +8,4 @@ use Rattle.parameters.proofs.natural.Goals as goal
 
 pub returns : goal.returns
 returns c = let a = c.args in
-    rw (c.unsigned.ensures, back_at w32 (get_or a.t.now a.slot (pos 0)) c.unsigned-arg.given)
+    rw (c.unsigned.ensures, back_at w32 (get_or a.t.now a.slot (pos 0)) c.unsigned-arg-1.given)

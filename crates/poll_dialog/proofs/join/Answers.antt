@@ -6,7 +6,6 @@ use Rattle.poll_dialog.proofs.join.Goals as goal
 
 pub returns : goal.returns
 unfolding join_text spoken
-returns c =
-    let put = c.before.before.before in
+returns c = let put = c in
     let e = put.register-a.ensures in
     (rw e, rw (← e) put.put_number-end.ensures)

@@ -8,10 +8,9 @@ use Rattle.poll_dialog.proofs.line.Goals as goal
 
 pub returns : goal.returns
 unfolding after_line line_text
-returns c =
-    let d = c.before.before in
-    let r = d.before.before in
-    let s = r.before.before.before in
-    let is = rw r.read-asked.ensures at d.done.ensures.0 in
-    let put = rw r.read-asked.ensures at d.done.ensures.1 in
+returns c = let d = c in
+    let r = d in
+    let s = r in
+    let is = rw r.read-asked.ensures at d.done.ensures.is in
+    let put = rw r.read-asked.ensures at d.done.ensures.text in
     (is, (put, put-within put longest_line (line-at-most s.args.d s.args.bytes.now) (omega arith)))

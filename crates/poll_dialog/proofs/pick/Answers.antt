@@ -3,7 +3,6 @@ use borrow.Author.Rules.{rules}
 use Rattle.poll_dialog.proofs.pick.Goals as goal
 
 pub returns : goal.returns
-returns c =
-    let put = c.before.before.before in
+returns c = let put = c in
     let e = put.pick-t.ensures in
     (rw e, rw (← e) put.put_choice-end.ensures)

@@ -6,12 +6,10 @@ use Rattle.poll_dialog.proofs.put_choice.Goals as goal
 
 pub returns-in-Panel : goal.returns-in-Panel
 unfolding choice_line spoken
-returns-in-Panel c =
-    let x = c.before.before in
+returns-in-Panel c = let x = c in
     rw x.in-Panel.is x.put_number.ensures
 
 pub returns-in-Nobody : goal.returns-in-Nobody
 unfolding choice_line spoken
-returns-in-Nobody c =
-    let x = c.before.before in
-    rw x.enum_told.given.1 x.put_bytes.ensures
+returns-in-Nobody c = let x = c in
+    rw x.enum_told-1.given.1 x.put_bytes.ensures

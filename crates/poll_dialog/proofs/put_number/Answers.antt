@@ -5,6 +5,5 @@ use borrow.Author.Rules.{rules}
 use Rattle.poll_dialog.proofs.put_number.Goals as goal
 
 pub returns : goal.returns
-returns c =
-    let n = c.before.before in
+returns c = let n = c in
     put_both n.put_bytes-at.ensures n.put_natural.ensures (omega arith)

@@ -6,7 +6,6 @@ use Rattle.poll_dialog.proofs.report.Goals as goal
 
 pub returns : goal.returns
 unfolding report_text spoken
-returns c =
-    let put = c.before.before.before in
+returns c = let put = c in
     let e = put.report-a.ensures in
     (rw e, rw (← e) put.put_number-end.ensures)

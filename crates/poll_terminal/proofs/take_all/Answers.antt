@@ -11,11 +11,9 @@ use Rattle.script.specs.Talk.{talked_all}
 use Rattle.script.specs.TalkLaws.{talked-by, talked-more, talked-end}
 use borrow.Author.Rules.{rules}
 use Rattle.poll_terminal.proofs.take_all.Goals as goal
-use Rattle.poll_terminal.proofs.take_all.Tie as tie
 
 pub loop-i-init : goal.loop-i-init
-loop-i-init c =
-    let s = c.before.before.before.before.before in
+loop-i-init c = let s = c in
     let n : length s.args.t.collector.bytes ≡ most = search rules in
     (omega arith, n, refl)
 
@@ -25,17 +23,15 @@ bounds-bytes-i c = omega arith
 pub push-x-requires : goal.push-x-requires
 push-x-requires c = omega (arith, c.loop-i.invariant.1)
 
--- the buffer is whole behind the byte
-whole : (c : tie.After-push-x) → length c.push-x.new.0 ≡ most
-whole c = omega (arith, c.push-x.auto.0, c.loop-i.invariant.1)
-
 pub take-d-requires : goal.take-d-requires
-take-d-requires c = omega (arith, whole c.before.before)
+take-d-requires c =
+    let whole : length c.push-x.new.0 ≡ most =
+    omega (arith, c.push-x.auto.0, c.loop-i.invariant.1) in
+    omega (arith, whole)
 
 pub overflow_add-i : goal.overflow_add-i
-overflow_add-i c =
-    let turn = c.before.before.before.before.before.before in
-    let s = turn.before.before.before.before.before.before.before in
+overflow_add-i c = let turn = c in
+    let s = turn in
     omega (arith, turn.loop-i-test.true, s.well_formed.1.0.0)
 
 pub loop-i-smaller : goal.loop-i-smaller
@@ -43,18 +39,19 @@ loop-i-smaller c = omega (arith, c.loop-i-test.true)
 
 pub loop-i-preserved : goal.loop-i-preserved
 loop-i-preserved c =
-    let push = c.before.before.before in
-    let turn = push.before.before.before in
+    let whole : length c.push-x.new.0 ≡ most =
+    omega (arith, c.push-x.auto.0, c.loop-i.invariant.1) in
+    let push = c in
+    let turn = push in
     let l = turn.loop-i in
     let bytes = turn.args.bytes.now in
     let one = talked-by after_line l.d c.take-d.result (collected l.held l.x) (collected push.push-x.new.0 push.push-x.result) _ push.push-x.ensures c.take-d.ensures in (
       omega (arith, turn.loop-i-test.true),
-      whole push,
+      whole,
       l.invariant.2 ∙ talked-more after_line (l.d, collected l.held l.x) bytes l.i turn.loop-i-test.true ∙ ap (λ (t : Dispatcher × Collector). talked_all after_line t (drop (l.i + 1) bytes)) (sym one),
     )
 
 pub returns : goal.returns
-returns c =
-    let at = c.before.before in
+returns c = let at = c in
     let all = rw at.extent_of-x.ensures at at.loop-i.invariant.2 in
     rw c.kept.ensures (sym (all ∙ talked-end after_line _ _ _ c.loop-i-test.false))

@@ -13,18 +13,16 @@ pub error_reported-reported-requires : goal.error_reported-reported-requires
 error_reported-reported-requires c = position-p-requires c.before κs
 
 pub basis_by-requires : goal.basis_by-requires
-basis_by-requires c =
-    let p = c.before.before.before in
-    let l = p.before in
-    rw (p.position-p.ensures, l.layout-l.ensures) (layout-sound l.requires, position-lt (layout_of l.args.t.now) l.args.telegram)
+basis_by-requires c = let p = c in
+    let l = p in
+    rw (p.position-p.ensures, l.layout.ensures) (layout-sound l.requires, position-lt (layout_of l.args.t.now) l.args.telegram)
 
 pub returns : goal.returns
 unfolding scaling_of
-returns c =
-    let r = c.before in
-    let d = r.before in
-    let e = d.before in
-    let p = e.before in
-    let l = p.before in
-    rw (c.basis_by.ensures, r.round_loop.ensures, d.direction.ensures, e.error_reported-reported.ensures, p.position-p.ensures, l.layout-l.ensures)
+returns c = let r = c in
+    let d = r in
+    let e = d in
+    let p = e in
+    let l = p in
+    rw (c.basis_by.ensures, r.round_loop.ensures, d.direction.ensures, e.error_reported-reported.ensures, p.position-p.ensures, l.layout.ensures)
     (basis-by l.args.t.now l.args.b l.args.telegram)

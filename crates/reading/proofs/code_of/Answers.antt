@@ -8,8 +8,7 @@ use Rattle.reading.proofs.code_of.Goals as goal
 
 pub returns : goal.returns
 unfolding coded_at
-returns c =
-    let g = c.args in
+returns c = let g = c.args in
     let s : bk w32 g.a.start ≡ g.a.start = search rules in
     let e : bk w32 g.a.end ≡ g.a.end = search rules in
     let r : bk w32 g.m.result ≡ g.m.result = search rules in

@@ -7,14 +7,12 @@ use Rattle.reading.proofs.count_after.Goals as goal
 
 pub returns-then-b : goal.returns-then-b
 unfolding count_after
-returns-then-b c =
-    let b = c.before in
+returns-then-b c = let b = c in
     let e : b.args.b.counted ≡ true = b.if-b.true in
     rw e c.counted.ensures
 
 pub returns : goal.returns
 unfolding count_after
-returns c =
-    let b = c.before in
+returns c = let b = c in
     let e : b.args.b.counted ≡ false = b.if-b.false in
     rw e c.first.ensures

@@ -10,18 +10,16 @@ use Rattle.reading.proofs.driven.Goals as goal
 
 pub drive_of-requires : goal.drive_of-requires
 unfolding code_at
-drive_of-requires c =
-    let s = c.before.before in
+drive_of-requires c = let s = c in
     rw (to_z-of_z s.ranges.code, s.requires) (code_fits _ _ _ _)
 
 pub returns-then-error_number-eq0 : goal.returns-then-error_number-eq0
 unfolding drive_at
-returns-then-error_number-eq0 c =
-    let test = c.before in
-    let s = test.before.before in
+returns-then-error_number-eq0 c = let test = c in
+    let s = test in
     rw (
       eq-eqb (error_number s.args.m.error) 0 (sym test.error_number.ensures ∙ test.if-error_number-eq0.true),
-      c.drive_of.ensures.0,
+      c.drive_of.ensures.is,
       to_z-of_z s.ranges.code,
       s.requires,
     )

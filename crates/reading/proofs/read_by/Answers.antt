@@ -10,15 +10,13 @@ use Rattle.reading.proofs.read_by.Goals as goal
 
 pub driven-drive-requires : goal.driven-drive-requires
 unfolding code_at coded_at coded_of
-driven-drive-requires c =
-    let k : bk w32 c.code_of_lem.result.code ≡ c.code_of_lem.result.code = search rules in
+driven-drive-requires c = let k : bk w32 c.code_of_lem.result.code ≡ c.code_of_lem.result.code = search rules in
     rw (k, c.code_of_lem.ensures)
 
 pub returns : goal.returns
 unfolding measurement_of code_at coded_at coded_of
-returns c =
-    let d = c.before.before.before in
-    let k = d.before.before in
+returns c = let d = c in
+    let k = d in
     let m = k.measure-x in
     let r : bk w32 m.result.measured.result ≡ m.result.measured.result = search rules in
     let z : bk w32 k.code_of_lem.result.code ≡ k.code_of_lem.result.code = search rules in

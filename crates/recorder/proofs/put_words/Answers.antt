@@ -24,9 +24,8 @@ pub bounds-bytes-i-in-loop-k-3 : goal.bounds-bytes-i-in-loop-k-3
 bounds-bytes-i-in-loop-k-3 c = simp length-set (omega arith)
 
 pub loop-k-preserved : goal.loop-k-preserved
-loop-k-preserved c =
-    let at = c.before.before.before in
-    let start = at.before.before.before in (
+loop-k-preserved c = let at = c in
+    let start = at in (
       search rules,
       search rules,
       put-more start.args.words.now start.args.bytes.now at.loop-k.bytes at.loop-k.k (omega arith) start.requires at.loop-k.invariant.2
@@ -34,9 +33,8 @@ loop-k-preserved c =
     )
 
 pub returns : goal.returns
-returns c =
-    let at = c.before in
-    let start = at.before.before.before in
+returns c = let at = c in
+    let start = at in
     let words = start.args.words.now in
     let old = start.args.bytes.now in
     let k : at.loop-k.k ≡ length words = omega arith in

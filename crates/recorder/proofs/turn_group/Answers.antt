@@ -12,10 +12,9 @@ use borrow.Author.Rules.{rules}
 use Rattle.recorder.proofs.turn_group.Goals as goal
 
 pub returns : goal.returns
-returns c =
-    let put = c.before.before in
-    let turned-words = put.before.before.before.before in
-    let read = turned-words.before.before.before in
+returns c = let put = c in
+    let turned-words = put in
+    let read = turned-words in
     let group = read.args.group.now in
     let ws = read.words_of-words.result in
     let l : length ws ≡ 32 = ap length read.words_of-words.ensures ∙ group-words group read.requires in

@@ -15,8 +15,7 @@ pub loop-k-init : goal.loop-k-init
 loop-k-init c = (search rules, refl, refl)
 
 pub loop-k-preserved : goal.loop-k-preserved
-loop-k-preserved c =
-    let at = c.before.before.before.before.before.before in
+loop-k-preserved c = let at = c in
     let group = at.args.group.now in
     let k = at.loop-k.k in (
       search rules,
@@ -26,8 +25,7 @@ loop-k-preserved c =
     )
 
 pub returns : goal.returns
-returns c =
-    let at = c.before in
+returns c = let at = c in
     let group = at.args.group.now in
     let words = at.loop-k.words in
     let e : at.loop-k.k ≡ 32 = omega arith in

@@ -6,6 +6,6 @@ use Rattle.registers.proofs.answer.Goals as goal
 
 pub returns : goal.returns
 unfolding served_of
-returns c = let a = c.before.before in
-    let s = a.before.before in
+returns c = let a = c in
+    let s = a in
     promised _ _ _ _ s.requires (rw a.asked-d.ensures at c.request.ensures)

@@ -7,13 +7,13 @@ use Rattle.registers.proofs.start.Goals as goal
 
 pub returns-then-is_node : goal.returns-then-is_node
 unfolding started_of
-returns-then-is_node c = let test = c.before in
-    (rw (← test.is_node.ensures, test.if-is_node.true) c.load.ensures.0, c.load.ensures.1)
+returns-then-is_node c = let test = c in
+    (rw (← test.is_node.ensures, test.if-is_node.true) c.load.ensures.is, c.load.ensures.valid)
 
 pub returns : goal.returns
 unfolding started_of
-returns c = let d = c.before in
-    let test = d.before in (
+returns c = let d = c in
+    let test = d in (
       rw (← test.is_node.ensures, test.if-is_node.false, c.fresh-s.ensures, d.defaults.ensures),
       rw (c.fresh-s.ensures, d.defaults.ensures) (good-fresh defaults-valid),
     )

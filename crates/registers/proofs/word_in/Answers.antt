@@ -22,5 +22,5 @@ returns-then-slot-lt104 c = let z : bk w32 c.word.result ≡ c.word.result = sea
 
 pub returns : goal.returns
 unfolding word_in
-returns c = let start = c.before.before in
+returns c = let start = c in
     rw (ne_eqb _ _ c.if-register-eq-SHOWN_REGISTER.false) (sym (get_or-eq_default start.args.t.now (pos 0) (omega (arith, start.requires.long))))

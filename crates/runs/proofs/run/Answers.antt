@@ -9,8 +9,7 @@ use Rattle.runs.specs.RanLaws.{refused-run, refused-promise, loaded-last, loaded
 use Rattle.runs.proofs.run.Goals as goal
 
 pub returns-then-l-ne0 : goal.returns-then-l-ne0
-returns-then-l-ne0 c =
-    let l = c.load-l in
+returns-then-l-ne0 c = let l = c.load-l in
     let a = c.answered-first in
     let s = c.args in
     let n : (loaded_of s.table.now).refusal ≡ 0 → ⊥ = λ z. c.if-l-ne0.true (ap (λ (x : Loaded). x.refusal) l.ensures.0 ∙ z) in
@@ -18,15 +17,14 @@ returns-then-l-ne0 c =
 
 pub run_on-last-requires : goal.run_on-last-requires
 unfolding answer_of
-run_on-last-requires c = rw c.answered-first.ensures c.load-l.ensures.1
+run_on-last-requires c = rw c.answered-first.ensures c.load-l.ensures.valid
 
 pub returns : goal.returns
 unfolding answer_of
-returns c =
-    let b = c.before.before.before in
+returns c = let b = c in
     let l = b.load-l in
     let s = b.args in
     let z : (loaded_of s.table.now).refusal ≡ 0 = ap (λ (x : Loaded). x.refusal) (sym l.ensures.0) ∙ c.if-l-ne0.false in
-    let e = rw (b.answered-first.ensures, l.ensures.0) at c.run_on-last.ensures.0 in
+    let e = rw (b.answered-first.ensures, l.ensures.0) at c.run_on-last.ensures.is in
     let last = e ∙ loaded-last s.table.now (events_in s.log.now) z in
     (loaded-run s.table.now (events_in s.log.now) _ z last, loaded-promise s.table.now (events_in s.log.now) _ last)

@@ -27,16 +27,14 @@ pub loop-i-smaller : goal.loop-i-smaller
 loop-i-smaller c = omega arith
 
 pub loop-i-preserved : goal.loop-i-preserved
-loop-i-preserved c =
-    let l = c.loop-i in
+loop-i-preserved c = let l = c.loop-i in
     let log = c.args.log.now in (
       omega arith,
-      c.step-last.ensures.1,
-      l.invariant.2 ∙ words_more l.last log l.i (omega arith) ∙ rw (c.step-last.ensures.0, c.event_of.ensures),
+      c.step-last.ensures.valid,
+      l.invariant.2 ∙ words_more l.last log l.i (omega arith) ∙ rw (c.step-last.ensures.is, c.event_of.ensures),
     )
 
 pub returns : goal.returns
-returns c =
-    let l = c.loop-i in
+returns c = let l = c.loop-i in
     let log = c.args.log.now in
     (sym (l.invariant.2 ∙ words-end l.last log l.i (omega arith)), l.invariant.1)

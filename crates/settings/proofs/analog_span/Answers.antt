@@ -7,8 +7,7 @@ use Rattle.settings.proofs.analog_span.Goals as goal
 
 pub returns : goal.returns
 unfolding span_of
-returns c =
-    let b = c.before in
+returns c = let b = c in
     rw (
       back_at w32 b.word.result b.word.type_inv,
       back_at w32 c.word-2.result c.word-2.type_inv,

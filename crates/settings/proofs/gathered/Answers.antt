@@ -3,7 +3,6 @@ use borrow.Author.Rules.{rules}
 use Rattle.settings.proofs.gathered.Goals as goal
 
 pub returns : goal.returns
-returns c =
-    let a = c.before in
-    let s = a.before in
+returns c = let a = c in
+    let s = a in
     rw (c.preselections.ensures, a.analog_span.ensures, s.scaling.ensures, s.layout.ensures)

@@ -7,8 +7,8 @@ use Rattle.settings.proofs.preselection.Goals as goal
 
 pub returns : goal.returns
 unfolding preselection_of
-returns c = let b = c.before.before.before in
-    let d = b.before.before.before in
+returns c = let b = c in
+    let d = b in
     let w = d.word in
     rw (
       back_at w32 w.result w.type_inv,

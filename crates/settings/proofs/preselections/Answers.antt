@@ -5,5 +5,5 @@ use Rattle.settings.proofs.preselections.Goals as goal
 
 pub returns : goal.returns
 unfolding preselections_of
-returns c = let b = c.before.before in
+returns c = let b = c in
     rw (b.preselection.ensures, b.preselection-2.ensures, c.preselection-3.ensures, c.preselection-4.ensures)

@@ -7,8 +7,8 @@ use Rattle.settings.proofs.scaling.Goals as goal
 
 pub returns : goal.returns
 unfolding scaling_of
-returns c = let b = c.before.before in
-    let d = b.before.before in
+returns c = let b = c in
+    let d = b in
     let w = d.word in
     rw (
       back_at w32 w.result w.type_inv,

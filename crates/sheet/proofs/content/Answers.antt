@@ -11,6 +11,5 @@ content_of-r-requires c = rw c.layout.ensures (layout-sound c.requires.0)
 
 pub returns : goal.returns
 unfolding read_text
-returns c =
-    let r = c.before.before.before.before.before.before.before.before.before.before.before in
+returns c = let r = c in
     rw (← (rw r.layout.ensures at r.content_of-r.ensures)) (put_both c.put_bytes-p1.ensures c.put_numbers.ensures (omega arith))

@@ -7,17 +7,15 @@ use borrow.Author.Rules.{rules}
 use Rattle.sheet.proofs.event.Goals as goal
 
 pub event_line-end-requires : goal.event_line-end-requires
-event_line-end-requires c =
-    let n = c.before.before in
-    let s = c.before.before.before.before.before.before.before.before.before.before.before in
+event_line-end-requires c = let n = c in
+    let s = c in
     (omega arith, rw n.next_count-count.ensures (next_count-range s.args.s.progress.count s.requires.0.count))
 
 pub returns : goal.returns
-returns c =
-    let line = c.before.before.before.before in
-    let n = line.before.before.before in
-    let a = n.before.before in
-    let s = a.before.before.before.before.before.before.before in (
-      c.with_run-sheet.ensures ∙ rw n.next_count-count.ensures (event-done s.args.s _ _ a.advance-o.result a.advance-o.ensures.0),
-      rw (n.next_count-count.ensures, event-told s.args.s _ _ a.advance-o.ensures.0) at line.event_line-end.ensures,
+returns c = let line = c in
+    let n = line in
+    let a = n in
+    let s = a in (
+      c.with_run-sheet.ensures ∙ rw n.next_count-count.ensures (event-done s.args.s _ _ a.advance-o.result a.advance-o.ensures.is),
+      rw (n.next_count-count.ensures, event-told s.args.s _ _ a.advance-o.ensures.is) at line.event_line-end.ensures,
     )

@@ -10,8 +10,7 @@ use Rattle.sheet.proofs.extremes.Goals as goal
 
 pub returns : goal.returns
 unfolding extremes_text
-returns c =
-    let x = c.args.x in
+returns c = let x = c.args.x in
     let least : bk w32 x.least ≡ x.least = search rules in
     let greatest : bk w32 x.greatest ≡ x.greatest = search rules in
     put_both c.put_bytes-p1.ensures (rw (least, greatest) at c.put_results.ensures) (omega arith)

@@ -10,4 +10,4 @@ start-requires c = rw (c.fresh-s.ensures, c.defaults-table.ensures) (good-fresh 
 
 pub returns : goal.returns
 unfolding fresh_sheet
-returns c = (rw (c.start.ensures.0, c.fresh-s.ensures, c.defaults-table.ensures), c.start.ensures.1)
+returns c = (rw (c.start.ensures.is, c.fresh-s.ensures, c.defaults-table.ensures), c.start.ensures.ready)

@@ -9,20 +9,17 @@ use borrow.Author.Rules.{rules}
 use Rattle.sheet.proofs.last.Goals as goal
 
 pub slice_bounds-bytes-end : goal.slice_bounds-bytes-end
-slice_bounds-bytes-end c =
-    let f = c.before in
+slice_bounds-bytes-end c = let f = c in
     let n : length f.frame-f.result.bytes ≡ 300 = search rules in
     let size = ap (λ (x : Bytes). x.length) f.frame-f.ensures ∙ packed-length _ in
     omega (arith, size, frame-fits f.args.line.now)
 
 pub piece-requires : goal.piece-requires
-piece-requires c =
-    let f = c.before.before.before in
-    let s = f.before.before.before in
+piece-requires c = let f = c in
+    let s = f in
     rw (f.frame-f.ensures, packed-bytes) (s.requires.0, omega (arith, frame-fits s.args.line.now))
 
 pub returns : goal.returns
-returns c =
-    let g = c.before.before in
-    let f = g.before.before.before.before in
-    (rw (f.frame-f.ensures, packed-bytes) at g.piece.ensures.0, rw (f.frame-f.ensures, packed-bytes) at g.piece.ensures.1)
+returns c = let g = c in
+    let f = g in
+    (rw (f.frame-f.ensures, packed-bytes) at g.piece.ensures.is, rw (f.frame-f.ensures, packed-bytes) at g.piece.ensures.text)

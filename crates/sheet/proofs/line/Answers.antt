@@ -13,19 +13,17 @@ use Rattle.sheet.proofs.line.Goals as goal
 
 pub returns-then-bytes-gt1024 : goal.returns-then-bytes-gt1024
 unfolding after_line line_text
-returns-then-bytes-gt1024 c =
-    let w = c.before.before in
+returns-then-bytes-gt1024 c = let w = c in
     let long = lt-ltb _ _ w.if-bytes-gt1024.true in
     (rw long, (rw long w.wrong.ensures, (w.requires.0, put-within w.wrong.ensures 15 (omega arith) (omega arith))))
 
 pub returns : goal.returns
 unfolding after_line line_text
-returns c =
-    let d = c.before.before in
-    let s = d.before.before.before.before.before.before.before in
+returns c = let d = c in
+    let s = d in
     let line = s.args.bytes.now in
     let short = le-ltb _ _ d.if-bytes-gt1024.false in
     let e : d.named-word.result ≡ word_named (first_of (words_of line)) = rw (d.named-word.ensures, d.word.ensures, first-of line) in
-    let is : d.done.result.sheet ≡ after_line s.args.s line = rw (short, ← e) d.done.ensures.0 in
+    let is : d.done.result.sheet ≡ after_line s.args.s line = rw (short, ← e) d.done.ensures.is in
     let told : word_text s.args.s line d.named-word.result ≡ line_text s.args.s line = rw (short, ← e) in
-    (is, (rw (short, ← e) d.done.ensures.1, (rw is (ready-line s.args.s line s.requires.0), line-within s.args.s line told d.done.ensures.1 s.requires.1)))
+    (is, (rw (short, ← e) d.done.ensures.text, (rw is (ready-line s.args.s line s.requires.0), line-within s.args.s line told d.done.ensures.text s.requires.1)))

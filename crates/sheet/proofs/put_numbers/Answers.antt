@@ -14,13 +14,11 @@ pub put_natural-p2-requires : goal.put_natural-p2-requires
 put_natural-p2-requires c = (omega (arith, put-room c.put_natural-p1.ensures 20 40 (field-at-most-20 _ space) (omega arith)), omega arith)
 
 pub put_natural-requires : goal.put_natural-requires
-put_natural-requires c =
-    let one = put-room c.put_natural-p1.ensures 20 40 (field-at-most-20 _ space) (omega arith) in
+put_natural-requires c = let one = put-room c.put_natural-p1.ensures 20 40 (field-at-most-20 _ space) (omega arith) in
     (omega (arith, put-room c.put_natural-p2.ensures 20 20 (field-at-most-20 _ space) (omega (arith, one))), omega arith)
 
 pub returns : goal.returns
-returns c =
-    let s = c.before.before.before.before.before.before.before.before.before.before.before.before.before in
+returns c = let s = c in
     let one = number s.args.a ++ (space ∷ []) in
     let two = number s.args.b ++ (space ∷ []) in
     let f : length one ≤ 20 = field-at-most-20 (pos s.args.a) space in

@@ -18,13 +18,11 @@ pub put_word-p2-requires : goal.put_word-p2-requires
 put_word-p2-requires c = omega (arith, put-room c.put_natural-p1.ensures 20 40 (field-at-most-20 _ space) (omega arith))
 
 pub put_word-requires : goal.put_word-requires
-put_word-requires c =
-    let one = put-room c.put_natural-p1.ensures 20 40 (field-at-most-20 _ space) (omega arith) in
+put_word-requires c = let one = put-room c.put_natural-p1.ensures 20 40 (field-at-most-20 _ space) (omega arith) in
     omega (arith, put-room c.put_word-p2.ensures 20 20 (field-at-most-20 _ space) (omega (arith, one)))
 
 pub returns : goal.returns
-returns c =
-    let s = c.before.before.before.before.before.before.before.before.before.before.before.before.before in
+returns c = let s = c in
     let one = number s.args.any ++ (space ∷ []) in
     let two = text_of s.args.least ++ (space ∷ []) in
     let f : length one ≤ 20 = field-at-most-20 (pos s.args.any) space in

@@ -17,9 +17,8 @@ past node c l i h = rw (fed-next node c l i h) (by d.ended)
     by false = omega (arith, next-on node d (drop (i + 1) l) (i + 1))
 
 pub loop-at-smaller : goal.loop-at-smaller
-loop-at-smaller c =
-    let feed = c.feed-f in
+loop-at-smaller c = let feed = c.feed-f in
     let l = c.loop-at in
-    let s = c.before.before.before.before.before.before.before in
+    let s = c in
     let further : l.at < feed.result.next = rw feed.ensures (past l.y.node l.y.line s.args.bytes.now l.at (omega arith)) in
     omega arith

@@ -7,16 +7,14 @@ use Rattle.panel.specs.Load.{loaded_of}
 use Rattle.registers.specs.Start.{is_node, started_of}
 use Rattle.slave.proofs.start.Goals as goal
 
-node-started : (node : ℕ) (t : List ℤ) → (started_of node t).refusal ≡ 0 → node ≤ 247
+pub node-started : (node : ℕ) (t : List ℤ) → (started_of node t).refusal ≡ 0 → node ≤ 247
 unfolding started_of is_node
-node-started node t =
-    by-test (is_node node) (loaded_of t) _ (λ (l : Loaded). l.refusal ≡ 0 → node ≤ 247)
+node-started node t = by-test (is_node node) (loaded_of t) _ (λ (l : Loaded). l.refusal ≡ 0 → node ≤ 247)
     (λ i _. leb-true node 247 (and_both (leb 1 node) (leb node 247) (is_true _ i)).1)
     (λ _ e. absurd (omega arith))
 
 pub overflow_cast-node : goal.overflow_cast-node
-overflow_cast-node c =
-    let l = c.before.before.before in
-    let s = l.before.before in
-    let number : (started_of s.args.node s.args.t2).refusal ≡ 0 = sym (ap Loaded.refusal l.start-l.ensures.0) ∙ c.if-l-ne0.false in
+overflow_cast-node c = let l = c in
+    let s = l in
+    let number : (started_of s.args.node s.args.t2).refusal ≡ 0 = sym (ap Loaded.refusal l.start.ensures.0) ∙ c.if-l-ne0.false in
     omega (arith, node-started s.args.node s.args.t2 number)

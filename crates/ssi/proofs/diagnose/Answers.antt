@@ -7,9 +7,8 @@ use Rattle.ssi.proofs.diagnose.Goals as goal
 
 pub returns-then-accepts : goal.returns-then-accepts
 unfolding diagnosis_of
-returns-then-accepts c =
-    let p = c.position-p.result in
-    let bits = c.args.bits-per-turn in
+returns-then-accepts c = let p = c.position-p.result in
+    let bits = c.args.bits_per_turn in
     rw (ap (bit_and p) c.mask.ensures ∙ and_mask p bits, c.position-p.ensures, sym c.accepts.ensures ∙ c.if-accepts.true)
 
 pub returns : goal.returns

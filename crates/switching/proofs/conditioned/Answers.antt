@@ -6,6 +6,5 @@ use Rattle.switching.proofs.conditioned.Goals as goal
 
 pub returns : goal.returns
 unfolding conditioned_of
-returns c =
-    let f = c.ranges in
+returns c = let f = c.ranges in
     rw (c.pulse_after.ensures, c.held-on.ensures, to_z-of_z f.partner, to_z-of_z f.r)

@@ -9,8 +9,7 @@ use Rattle.switching.proofs.held.Goals as goal
 
 pub returns-then-released : goal.returns-then-released
 unfolding held_of
-returns-then-released c =
-    let s = c.before.before.before in
+returns-then-released c = let s = c in
     let value-is : bk w32 s.args.p.value ≡ s.args.p.value = search rules in
     rw (c.condition.ensures, value-is, to_z-of_z s.ranges.r, to_z-of_z s.ranges.partner, c.if-released.true)
 

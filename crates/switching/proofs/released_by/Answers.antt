@@ -14,15 +14,13 @@ returns-then-released c = simp c.if-released.true
 
 pub returns-then-not-has_suppression : goal.returns-then-not-has_suppression
 unfolding released_of
-returns-then-not-has_suppression c =
-    let h = c.before in
-    rw (h.if-released.false, ← h.has_suppression.ensures, not-true h.has_suppression.result c.if-not-has_suppression.true)
+returns-then-not-has_suppression c = let h = c in
+    rw (h.if-released.false, ← h.has_suppression.ensures, not-true h.has_suppression.result c.if-not-has_suppression.true-raw)
 
 pub returns-else-not-has_suppression : goal.returns-else-not-has_suppression
 unfolding released_of
-returns-else-not-has_suppression c =
-    let t = c.before.before in
-    let h = t.before in
-    let s = h.before.before in
+returns-else-not-has_suppression c = let t = c in
+    let h = t in
+    let s = h in
     let value-is : bk w32 s.args.p.value ≡ s.args.p.value = search rules in
-    rw (c.exceeding.ensures, value-is, to_z-of_z s.ranges.r, h.if-released.false, ← h.has_suppression.ensures, not-false h.has_suppression.result t.if-not-has_suppression.false)
+    rw (c.exceeding.ensures, value-is, to_z-of_z s.ranges.r, h.if-released.false, ← h.has_suppression.ensures, not-false h.has_suppression.result t.if-not-has_suppression.false-raw)

@@ -37,14 +37,12 @@ pub loop-k-smaller : goal.loop-k-smaller
 loop-k-smaller c = omega arith
 
 pub loop-k-preserved : goal.loop-k-preserved
-loop-k-preserved c =
-    let l = c.loop-k in (
-      omega arith,
-      length-set l.next l.k c.switched_at-q.result ∙ l.invariant.1,
-      l.invariant.2 ∙ each_more _ l.next l.k fresh_switch c.switched_at-q.result (omega arith) c.switched_at-q.ensures,
-    )
+loop-k-preserved c = let l = c.loop-k in (
+  omega arith,
+  length-set l.next l.k c.switched_at-q.result ∙ l.invariant.1,
+  l.invariant.2 ∙ each_more _ l.next l.k fresh_switch c.switched_at-q.result (omega arith) c.switched_at-q.ensures,
+)
 
 pub returns : goal.returns
-returns c =
-    let l = c.loop-k in
+returns c = let l = c.loop-k in
     rw (← to_z-of_z {w = w32} c.ranges.r) (sym (l.invariant.2 ∙ each-end _ l.next l.k (omega arith)))

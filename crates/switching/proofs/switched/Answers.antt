@@ -6,6 +6,5 @@ use Rattle.switching.proofs.switched.Goals as goal
 
 pub returns : goal.returns
 unfolding switched_of
-returns c =
-    let f = c.ranges in
+returns c = let f = c.ranges in
     rw (c.locked.ensures, c.conditioned.ensures, c.released_by-released.ensures, to_z-of_z f.partner, to_z-of_z f.r)

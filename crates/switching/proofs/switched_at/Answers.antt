@@ -17,9 +17,8 @@ bounds-ps-partner_of c = omega (arith, c.partner_of.ensures, partner-below c.arg
 
 pub returns : goal.returns
 unfolding switched_at
-returns c =
-    let p = c.before.before.before.before in
-    let s = p.before in
+returns c = let p = c in
+    let s = p in
     let other = preselection_at s.args.t1 p.partner_of.result in
     let value-is : bk w32 other.value ≡ other.value = search rules in
     rw (c.switched.ensures, value-is, to_z-of_z s.ranges.r, p.partner_of.ensures)

@@ -6,12 +6,11 @@ use Rattle.switching.specs.EachLaws.{each-four}
 use Rattle.switching.specs.Switching.{fresh_switch}
 use Rattle.switching.proofs.unlock_all.Goals as goal
 
-four : (c : goal.Start) → length c.args.t1 ≡ 4
-four c = search rules
-
 pub returns : goal.returns
 returns c =
-    let third = c.before.before in
-    let second = third.before.before in
-    let first = second.before.before in
-    each-four _ first.args.t1 fresh_switch (four first.before.before) first.unlocked.ensures second.unlocked-2.ensures third.unlocked-3.ensures c.unlocked-4.ensures
+    let four : length c.args.t1 ≡ 4 =
+    search rules in
+    let third = c in
+    let second = third in
+    let first = second in
+    each-four _ first.args.t1 fresh_switch (four) first.unlocked.ensures second.unlocked-2.ensures third.unlocked-3.ensures c.unlocked-4.ensures

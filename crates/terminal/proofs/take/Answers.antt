@@ -3,7 +3,7 @@ use borrow.Author.Rules.{rules}
 use Rattle.terminal.proofs.take.Goals as goal
 
 pub returns-then-x : goal.returns-then-x
-returns-then-x c = (rw (c.if-x.true, c.answer.ensures.0), c.answer.ensures.1)
+returns-then-x c = (rw (c.if-x.true, c.answer.ensures.is), c.answer.ensures.ready)
 
 pub returns : goal.returns
 returns c = (rw c.if-x.false, c.requires.0)

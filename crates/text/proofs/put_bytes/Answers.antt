@@ -26,8 +26,7 @@ pub loop-i-smaller : goal.loop-i-smaller
 loop-i-smaller c = omega arith
 
 pub loop-i-preserved : goal.loop-i-preserved
-loop-i-preserved c =
-    let l = c.loop-i in
+loop-i-preserved c = let l = c.loop-i in
     let args = c.args in (
       omega arith,
       length-set l.out (args.at + l.i) (get_or args.bytes.now l.i 0) ∙ l.invariant.1,
@@ -41,8 +40,7 @@ pub shape_of-out : goal.shape_of-out
 shape_of-out c = c.loop-i.invariant.1
 
 pub returns : goal.returns
-returns c =
-    let l = c.loop-i in
+returns c = let l = c.loop-i in
     let args = c.args in
     let e : l.i ≡ length args.bytes.now = omega arith in
     record { ends = omega arith; holds = l.invariant.2 ∙ rw (e, take_all (length args.bytes.now) args.bytes.now (omega arith)) }

@@ -11,31 +11,42 @@ use Rattle.text.proofs.Parts.{number_put}
 use borrow.Author.Rules.{rules}
 use Rattle.text.proofs.put_number.Goals as goal
 
--- how many bytes were written
-written : (c : goal.After-slice_known-2-1) → c.write-n.result ≡ length (text_of c.args.z)
-written c = rw (to_z-of_z {w = w64} c.ranges.z) at c.write-n.ensures.0
-
--- they fit, and one more
-fitting : (c : goal.After-slice_known-2-1) → c.args.at + c.write-n.result < length c.args.out.now
-fitting c = omega (arith, written c, text-at-most-19 c.args.z)
-
 pub overflow_add-end : goal.overflow_add-end
-overflow_add-end c = omega (arith, fitting c)
+overflow_add-end c =
+    let written : c.write-n.result ≡ length (text_of c.args.z) =
+    rw (to_z-of_z {w = w64} c.ranges.z) at c.write-n.ensures.0 in
+    let fitting : c.args.at + c.write-n.result < length c.args.out.now =
+    omega (arith, written, text-at-most-19 c.args.z) in
+    omega (arith, fitting)
 
 pub bounds-out-end : goal.bounds-out-end
-bounds-out-end c = omega (arith, fitting c)
+bounds-out-end c =
+    let written : c.write-n.result ≡ length (text_of c.args.z) =
+    rw (to_z-of_z {w = w64} c.ranges.z) at c.write-n.ensures.0 in
+    let fitting : c.args.at + c.write-n.result < length c.args.out.now =
+    omega (arith, written, text-at-most-19 c.args.z) in
+    omega (arith, fitting)
 
 pub overflow_add-result : goal.overflow_add-result
-overflow_add-result c = omega (arith, fitting c)
+overflow_add-result c =
+    let written : c.write-n.result ≡ length (text_of c.args.z) =
+    rw (to_z-of_z {w = w64} c.ranges.z) at c.write-n.ensures.0 in
+    let fitting : c.args.at + c.write-n.result < length c.args.out.now =
+    omega (arith, written, text-at-most-19 c.args.z) in
+    omega (arith, fitting)
 
 pub returns : goal.returns
 returns c =
-    let start = c.before.before.before.before.before in
+    let written : c.write-n.result ≡ length (text_of c.args.z) =
+    rw (to_z-of_z {w = w64} c.ranges.z) at c.write-n.ensures.0 in
+    let fitting : c.args.at + c.write-n.result < length c.args.out.now =
+    omega (arith, written, text-at-most-19 c.args.z) in
+    let start = c in
     let args = start.args in
     let w = c.write-n in
     record {
-      ends = rw length-append (omega (arith, written c));
+      ends = rw length-append (omega (arith, written));
       holds =
-          number_put args.out.now (text_of args.z) w.new.0 args.at w.result args.after (written c) (fitting c)
+          number_put args.out.now (text_of args.z) w.new.0 args.at w.result args.after (written) (fitting)
           (rw (to_z-of_z {w = w64} start.ranges.z) at w.ensures.1);
     }

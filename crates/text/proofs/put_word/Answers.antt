@@ -8,7 +8,7 @@ use Rattle.integers.specs.IntLaws.{size, wider, fits-within}
 use borrow.Author.Rules.{rules}
 use Rattle.text.proofs.put_word.Goals as goal
 
-as_wide : {z : ℤ} → SFits w32 z → SFits w64 z
+pub as_wide : {z : ℤ} → SFits w32 z → SFits w64 z
 as_wide f = fits-within {w = w64} (size f) (omega arith)
 
 pub overflow_cast-z : goal.overflow_cast-z

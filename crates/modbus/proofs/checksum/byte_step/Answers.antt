@@ -18,13 +18,11 @@ pub loop-k-smaller : goal.loop-k-smaller
 loop-k-smaller c = omega arith
 
 pub loop-k-preserved : goal.loop-k-preserved
-loop-k-preserved c =
-    let l = c.loop-k in
+loop-k-preserved c = let l = c.loop-k in
     (omega arith, l.invariant.1 ∙ rw c.bit_step-x.ensures (steps_next l.k l.x (omega arith)))
 
 pub returns : goal.returns
 unfolding bit_steps
-returns c =
-    let l = c.loop-k in
+returns c = let l = c.loop-k in
     let z : l.k ≡ 0 = omega arith in
     sym (rw z at l.invariant.1)

@@ -22,15 +22,13 @@ pub loop-i-smaller : goal.loop-i-smaller
 loop-i-smaller c = omega arith
 
 pub loop-i-preserved : goal.loop-i-preserved
-loop-i-preserved c =
-    let l = c.loop-i in
+loop-i-preserved c = let l = c.loop-i in
     let bytes = c.args.bytes.now in
     (omega arith, l.invariant.1 ∙ rw c.byte_step-c.ensures (crc-next l.c bytes l.i (omega arith)))
 
 pub returns : goal.returns
 unfolding crc_from
-returns c =
-    let l = c.loop-i in
+returns c = let l = c.loop-i in
     let bytes = c.args.bytes.now in
     let done : length bytes ≤ l.i = omega arith in
     sym (rw (drop_of_length-le bytes done) at l.invariant.1)

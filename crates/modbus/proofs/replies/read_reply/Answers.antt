@@ -7,13 +7,12 @@ use Rattle.modbus.proofs.replies.read_reply.Goals as goal
 
 pub returns : goal.returns
 unfolding packed read_reply sealed
-returns c =
-    let r = c.before.before in
-    let b3 = r.before.before in
-    let b2 = b3.before in
-    let b1 = b2.before in
-    let b0 = b1.before in
-    let w = b0.before in
+returns c = let r = c in
+    let b3 = r in
+    let b2 = b3 in
+    let b1 = b2 in
+    let b0 = b1 in
+    let w = b0 in
     rw (
       c.high_byte-high.ensures,
       c.low_byte-low.ensures,

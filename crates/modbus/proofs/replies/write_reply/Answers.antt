@@ -6,7 +6,6 @@ use Rattle.modbus.proofs.replies.write_reply.Goals as goal
 
 pub returns : goal.returns
 unfolding packed write_reply sealed
-returns c =
-    let r = c.before.before in
-    let l = r.before.before in
-    rw (c.high_byte-high.ensures, c.low_byte-low.ensures, r.crc-c.ensures, l.low_byte-b1.ensures, l.high_byte-b0.ensures)
+returns c = let r = c in
+    let l = r in
+    rw (c.high_byte-high.ensures, c.low_byte-low.ensures, r.crc-c.ensures, l.low_byte.ensures, l.high_byte-b0.ensures)

@@ -11,10 +11,6 @@ use Rattle.parameters.specs.RowLaws.{out-next, out-here, out_none}
 use borrow.Author.Rules.{rules}
 use native.Mathlib.Omega.{arith}
 use Rattle.parameters.proofs.rows.lowest_out.Goals as goal
-use Rattle.parameters.proofs.rows.lowest_out.Tie as tie
-
-long : (c : goal.Start) → length c.args.t1 ≡ 104
-long c = search rules
 
 pub loop-i-init : goal.loop-i-init
 loop-i-init c = (omega arith, refl)
@@ -25,14 +21,15 @@ offset_bounds-t-i c = omega arith
 pub bounds-t-i : goal.bounds-t-i
 bounds-t-i c = omega arith
 
--- what the call answers is the test of the slot's word
-looked : (c : tie.After-in_range-fits) → in_range c.loop-i.i (get_or c.args.t1 c.loop-i.i (pos 0)) ≡ c.in_range-fits.result
-looked c = ap (in_range c.loop-i.i) (sym (to_z-of_z {w = w32} (record { sfits = c.in-range-arg.given }))) ∙ sym c.in_range-fits.ensures
-
 pub returns-then-not-fits : goal.returns-then-not-fits
-returns-then-not-fits c = let s = c.before.before.before.before.before in
+returns-then-not-fits c =
+    let long : length c.args.t1 ≡ 104 =
+    search rules in
+    let looked : in_range c.loop-i.i (get_or c.args.t1 c.loop-i.i (pos 0)) ≡ c.in_range-fits.result =
+    ap (in_range c.loop-i.i) (sym (to_z-of_z {w = w32} (record { sfits = c.in_range-arg-1.given }))) ∙ sym c.in_range-fits.ensures in
+    let s = c in
     let l = c.loop-i in
-    sym (l.invariant.1 ∙ out-here s.args.t1 l.i (omega (arith, long s)) (looked c.before ∙ not-true _ c.if-not-fits.true))
+    sym (l.invariant.1 ∙ out-here s.args.t1 l.i (omega (arith, long)) (looked ∙ not-true _ c.if-not-fits.true-raw))
 
 pub overflow_add-i : goal.overflow_add-i
 overflow_add-i c = omega arith
@@ -41,11 +38,19 @@ pub loop-i-smaller : goal.loop-i-smaller
 loop-i-smaller c = omega arith
 
 pub loop-i-preserved : goal.loop-i-preserved
-loop-i-preserved c = let s = c.before.before.before.before.before in
+loop-i-preserved c =
+    let long : length c.args.t1 ≡ 104 =
+    search rules in
+    let looked : in_range c.loop-i.i (get_or c.args.t1 c.loop-i.i (pos 0)) ≡ c.in_range-fits.result =
+    ap (in_range c.loop-i.i) (sym (to_z-of_z {w = w32} (record { sfits = c.in_range-arg-1.given }))) ∙ sym c.in_range-fits.ensures in
+    let s = c in
     let l = c.loop-i in
-    (omega arith, l.invariant.1 ∙ out-next s.args.t1 l.i (omega (arith, long s)) (looked c.before ∙ not-false _ c.if-not-fits.false))
+    (omega arith, l.invariant.1 ∙ out-next s.args.t1 l.i (omega (arith, long)) (looked ∙ not-false _ c.if-not-fits.false-raw))
 
 pub returns : goal.returns
-returns c = let s = c.before.before in
+returns c =
+    let long : length c.args.t1 ≡ 104 =
+    search rules in
+    let s = c in
     let l = c.loop-i in
-    sym (l.invariant.1 ∙ out_none s.args.t1 l.i (omega (arith, long s)))
+    sym (l.invariant.1 ∙ out_none s.args.t1 l.i (omega (arith, long)))

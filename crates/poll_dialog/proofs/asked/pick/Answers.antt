@@ -13,6 +13,5 @@ returns-then-extra-eq0 c = rw (no_word c.args.s.now (sym (ap length c.word-extra
 
 pub returns : goal.returns
 unfolding pick_in
-returns c =
-    let n = c.if-extra-eq0.false in
+returns c = let n = c.if-extra-eq0.false in
     rw (some_word c.args.s.now (omega (arith, ap length c.word-extra.ensures)))

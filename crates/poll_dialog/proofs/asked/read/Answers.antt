@@ -24,8 +24,7 @@ returns-then-t-gt-LONGEST c = rw (← c.trimmed-t.ensures, lt-ltb _ _ c.if-t-gt-
 
 pub returns-then-t-eq0 : goal.returns-then-t-eq0
 unfolding asked_of
-returns-then-t-eq0 c =
-    let t = c.trimmed-t in
+returns-then-t-eq0 c = let t = c.trimmed-t in
     rw (← t.ensures) (read_none t.result.now c.if-t-eq0.true)
 
 pub returns-then-t-eq35 : goal.returns-then-t-eq35
@@ -34,17 +33,15 @@ returns-then-t-eq35 c = rw (← c.trimmed-t.ensures, le-ltb _ _ c.if-t-gt-LONGES
 
 pub returns-then-w-eq0 : goal.returns-then-w-eq0
 unfolding asked_of meaning_of
-returns-then-w-eq0 c =
-    let w = c.before in
-    let e = w.before in
+returns-then-w-eq0 c = let w = c in
+    let e = w in
     let t = e.trimmed-t in
     rw (← t.ensures, le-ltb _ _ e.if-t-gt-LONGEST.false, ne_eqb _ _ e.if-t-eq35.false, no_word t.result.now (sym (ap length w.word-w.ensures) ∙ c.if-w-eq0.true))
 
 pub returns : goal.returns
 unfolding asked_of meaning_of
-returns c =
-    let w = c.before.before.before in
-    let e = w.before in
+returns c = let w = c in
+    let e = w in
     let t = e.trimmed-t in
     let n = c.if-w-eq0.false in
     rw (← t.ensures, le-ltb _ _ e.if-t-gt-LONGEST.false, ne_eqb _ _ e.if-t-eq35.false, some_word t.result.now (omega (arith, ap length w.word-w.ensures)), c.named.ensures, w.word-w.ensures, c.rest.ensures)

@@ -6,20 +6,17 @@ use Rattle.poll_dialog.proofs.asked.report.Goals as goal
 
 pub returns-in-Count-v : goal.returns-in-Count-v
 unfolding report_in
-returns-in-Count-v c =
-    let n = c.before.before.before.before in
-    let s = n.before.before in
+returns-in-Count-v c = let n = c in
+    let s = n in
     rw (first-of _, ← s.word.ensures, ← s.natural-n.ensures, n.in-Count.is, others-of _, ← s.rest.ensures, ← s.only.ensures, ← s.natural-v.ensures, c.in-Count-v.is)
 
 pub returns-in-Missing-v : goal.returns-in-Missing-v
 unfolding report_in
-returns-in-Missing-v c =
-    let n = c.before.before.before in
-    let s = n.before.before in
-    rw (first-of _, ← s.word.ensures, ← s.natural-n.ensures, n.in-Count.is, others-of _, ← s.rest.ensures, ← s.only.ensures, ← s.natural-v.ensures, c.enum_told.given.1)
+returns-in-Missing-v c = let n = c in
+    let s = n in
+    rw (first-of _, ← s.word.ensures, ← s.natural-n.ensures, n.in-Count.is, others-of _, ← s.rest.ensures, ← s.only.ensures, ← s.natural-v.ensures, c.enum_told-1.given.1)
 
 pub returns-in-Missing : goal.returns-in-Missing
 unfolding report_in
-returns-in-Missing c =
-    let s = c.before.before in
+returns-in-Missing c = let s = c in
     rw (first-of _, ← s.word.ensures, ← s.natural-n.ensures, c.in-Missing.is)

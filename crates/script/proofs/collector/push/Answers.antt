@@ -11,8 +11,7 @@ use Rattle.script.proofs.collector.push.Goals as goal
 
 pub returns-then-b-eq10 : goal.returns-then-b-eq10
 unfolding pushed_on
-returns-then-b-eq10 c =
-    let ends : eqb c.args.b newline ≡ true = eq-eqb _ _ c.if-b-eq10.true in
+returns-then-b-eq10 c = let ends : eqb c.args.b newline ≡ true = eq-eqb _ _ c.if-b-eq10.true in
     rw (← begun-renews _ _, ← c.renew-y.ensures, ends)
 
 pub returns-then-n-lt-MOST : goal.returns-then-n-lt-MOST

@@ -10,12 +10,10 @@ gathered-requires c = sym c.is_frame.ensures ∙ c.if-is_frame.true
 
 pub returns-then-is_frame : goal.returns-then-is_frame
 unfolding frame_of frame_in
-returns-then-is_frame c =
-    let f = c.before.before in
+returns-then-is_frame c = let f = c in
     rw (← f.trimmed.ensures, others-of _, ← f.rest-s.ensures, ← f.is_frame.ensures, c.if-is_frame.true, c.gathered.ensures)
 
 pub returns : goal.returns
 unfolding frame_of frame_in packed
-returns c =
-    let f = c.before in
+returns c = let f = c in
     rw (← f.trimmed.ensures, others-of _, ← f.rest-s.ensures, ← f.is_frame.ensures, c.if-is_frame.false)

@@ -14,19 +14,16 @@ unfolding is_frame
 loop-t-init c = left-all _ _ _ _ c.requires
 
 pub returns-then-w-eq0 : goal.returns-then-w-eq0
-returns-then-w-eq0 c =
-    let l = c.loop-t in
+returns-then-w-eq0 c = let l = c.loop-t in
     bytes_packed _ l.n l.bytes l.t.now l.invariant (sym (ap length c.word-w.ensures) ∙ c.if-w-eq0.true)
 
 pub byte-requires : goal.byte-requires
-byte-requires c =
-    let l = c.loop-t in
+byte-requires c = let l = c.loop-t in
     let w = c.if-w-eq0.false in
     rw c.word-w.ensures (left-hex _ _ _ _ l.n l.bytes l.t.now l.invariant (omega (arith, ap length c.word-w.ensures)))
 
 pub bounds-bytes-n : goal.bounds-bytes-n
-bounds-bytes-n c =
-    let l = c.loop-t in
+bounds-bytes-n c = let l = c.loop-t in
     let w = c.if-w-eq0.false in
     left-room _ _ _ _ l.n l.bytes l.t.now l.invariant (omega (arith, ap length c.word-w.ensures))
 
@@ -43,15 +40,13 @@ pub slice_bounds-t-start : goal.slice_bounds-t-start
 slice_bounds-t-start c = omega arith
 
 pub loop-t-smaller : goal.loop-t-smaller
-loop-t-smaller c =
-    let l = c.loop-t in
+loop-t-smaller c = let l = c.loop-t in
     let w = c.if-w-eq0.false in
     rw (go_on l.t.now c.rest-r.result.now c.rest-r.ensures)
     (rest-shorter l.t.now (omega (arith, ap length c.word-w.ensures)))
 
 pub loop-t-preserved : goal.loop-t-preserved
-loop-t-preserved c =
-    let l = c.loop-t in
+loop-t-preserved c = let l = c.loop-t in
     let w = c.if-w-eq0.false in
     let f = c.word-w.ensures in
     rw (go_on l.t.now c.rest-r.result.now c.rest-r.ensures, c.byte.ensures, f)

@@ -14,19 +14,16 @@ pub shape_of-out-then-w-eq0 : goal.shape_of-out-then-w-eq0
 shape_of-out-then-w-eq0 c = c.loop-t.invariant.size
 
 pub returns-then-w-eq0 : goal.returns-then-w-eq0
-returns-then-w-eq0 c =
-    let l = c.loop-t in
+returns-then-w-eq0 c = let l = c.loop-t in
     left-none _ _ _ _ l.t.now l.invariant c.requires.0 (sym (ap length c.word-w.ensures) ∙ c.if-w-eq0.true)
 
 pub value-requires : goal.value-requires
-value-requires c =
-    let l = c.loop-t in
+value-requires c = let l = c.loop-t in
     let w = c.if-w-eq0.false in
     rw c.word-w.ensures (left-hex _ _ _ _ l.t.now l.invariant c.requires.0 (omega (arith, ap length c.word-w.ensures)))
 
 pub put_word-p-requires : goal.put_word-p-requires
-put_word-p-requires c =
-    let l = c.loop-t in
+put_word-p-requires c = let l = c.loop-t in
     let w = c.if-w-eq0.false in
     left-room _ _ _ _ l.t.now l.invariant c.requires.0 (omega (arith, ap length c.word-w.ensures))
 
@@ -40,14 +37,12 @@ pub slice_bounds-t-start : goal.slice_bounds-t-start
 slice_bounds-t-start c = omega arith
 
 pub loop-t-smaller : goal.loop-t-smaller
-loop-t-smaller c =
-    let l = c.loop-t in
+loop-t-smaller c = let l = c.loop-t in
     let w = c.if-w-eq0.false in
     rw (go_on l.t.now c.rest-r.result.now c.rest-r.ensures) (rest-shorter l.t.now (omega (arith, ap length c.word-w.ensures)))
 
 pub loop-t-preserved : goal.loop-t-preserved
-loop-t-preserved c =
-    let l = c.loop-t in
+loop-t-preserved c = let l = c.loop-t in
     let w = c.if-w-eq0.false in
     let f = c.word-w.ensures in
     let p = rw (c.value.ensures, f) at c.put_word-p.ensures in

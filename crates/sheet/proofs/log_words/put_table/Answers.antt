@@ -37,14 +37,13 @@ pub loop-k-smaller : goal.loop-k-smaller
 loop-k-smaller c = omega arith
 
 pub loop-k-preserved : goal.loop-k-preserved
-loop-k-preserved c =
-    let w = c.before.before in
+loop-k-preserved c = let w = c in
     let l = w.loop-k in
     let t = w.args.t.now in
     let p = w.put_word-p.ensures in
     let k : length (take l.k t) ≡ l.k = length-take-le l.k t (omega arith) in
     let n = table-length (take l.k t) in
-    let e : w.bits.result ≡ bits_of (get_or t l.k (pos 0)) = w.bits.ensures ∙ ap bits_of (back_at w32 (get_or t l.k (pos 0)) w.bits-arg.given) in (
+    let e : w.bits.result ≡ bits_of (get_or t l.k (pos 0)) = w.bits.ensures ∙ ap bits_of (back_at w32 (get_or t l.k (pos 0)) w.bits-arg-1.given) in (
       omega arith,
       put-length p (omega arith) ∙ l.invariant.1,
       omega (arith, p.ends),

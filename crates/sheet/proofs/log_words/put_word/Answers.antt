@@ -7,8 +7,7 @@ use Rattle.text.specs.Put.{Put}
 use Rattle.sheet.proofs.log_words.put_word.Goals as goal
 
 pub returns : goal.returns
-returns c =
-    let put = c.before.before in
-    let read = put.before.before.before in
-    let start = read.before.before in
+returns c = let put = c in
+    let read = put in
+    let start = read in
     subst (λ (l : List ℕ). Put start.args.out.now start.args.at l put.put_bytes.result put.put_bytes.new.0) read.bytes_of-bytes.ensures put.put_bytes.ensures

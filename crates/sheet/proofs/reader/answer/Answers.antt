@@ -6,6 +6,5 @@ use borrow.Author.Rules.{rules}
 use Rattle.sheet.proofs.reader.answer.Goals as goal
 
 pub returns : goal.returns
-returns c =
-    let a = c.before.before.before.before in
-    (rw (← a.held-n.ensures.0) a.line-a.ensures.0, a.line-a.ensures.1.1.0)
+returns c = let a = c in
+    (rw (← a.held-n.ensures.0) a.line-a.ensures.is, a.line-a.ensures.text.1.0)

@@ -7,7 +7,6 @@ use borrow.Author.Rules.{rules}
 use Rattle.sheet.proofs.reader.finish.Goals as goal
 
 pub answer-requires : goal.answer-requires
-answer-requires c =
-    let s = c.before.before.before.before.before in
+answer-requires c = let s = c in
     let n : length s.args.l.bytes ≡ most = search rules in
     (s.requires, omega arith)

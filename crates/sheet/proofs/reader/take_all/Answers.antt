@@ -7,11 +7,9 @@ use Rattle.logrun.specs.Progress.{Ready}
 use Rattle.script.specs.Collector.{most}
 use borrow.Author.Rules.{rules}
 use Rattle.sheet.proofs.reader.take_all.Goals as goal
-use Rattle.sheet.proofs.reader.take_all.Tie as tie
 
 pub loop-i-init : goal.loop-i-init
-loop-i-init c =
-    let s = c.before.before.before in
+loop-i-init c = let s = c in
     let n : length s.args.l.bytes ≡ most = search rules in
     (s.requires, omega arith, n)
 
@@ -21,17 +19,15 @@ bounds-bytes-i c = omega arith
 pub push-x-requires : goal.push-x-requires
 push-x-requires c = omega (arith, c.loop-i.invariant.2)
 
--- the buffer is whole behind the byte
-whole : (c : tie.After-push-x) → length c.push-x.new.0 ≡ most
-whole c = omega (arith, c.push-x.auto.0, c.loop-i.invariant.2)
-
 pub take-sheet-requires : goal.take-sheet-requires
-take-sheet-requires c = (c.loop-i.invariant.0, omega (arith, whole c.before.before))
+take-sheet-requires c =
+    let whole : length c.push-x.new.0 ≡ most =
+    omega (arith, c.push-x.auto.0, c.loop-i.invariant.2) in
+    (c.loop-i.invariant.0, omega (arith, whole))
 
 pub overflow_add-i : goal.overflow_add-i
-overflow_add-i c =
-    let turn = c.before.before.before.before.before.before in
-    let s = turn.before.before.before.before.before in
+overflow_add-i c = let turn = c in
+    let s = turn in
     omega (arith, turn.loop-i-test.true, s.well_formed.1.1.0.0)
 
 pub loop-i-smaller : goal.loop-i-smaller
@@ -39,8 +35,10 @@ loop-i-smaller c = omega (arith, c.loop-i-test.true)
 
 pub loop-i-preserved : goal.loop-i-preserved
 loop-i-preserved c =
-    let push = c.before.before.before in
-    (c.take-sheet.ensures, omega (arith, push.loop-i-test.true), whole push)
+    let whole : length c.push-x.new.0 ≡ most =
+    omega (arith, c.push-x.auto.0, c.loop-i.invariant.2) in
+    let push = c in
+    (c.take-sheet.ensures, omega (arith, push.loop-i-test.true), whole)
 
 pub returns : goal.returns
 returns c = c.loop-i.invariant.0

@@ -7,4 +7,4 @@ use Rattle.slave.proofs.files.moved.Goals as goal
 
 pub returns : goal.returns
 unfolding answer_of
-returns c = (ap (λ (a : Answer). kept_of a.state true) c.advance-o.ensures.0, c.advance-o.ensures.1)
+returns c = (ap (λ (a : Answer). kept_of a.state true) c.advance-o.ensures.is, c.advance-o.ensures.valid)

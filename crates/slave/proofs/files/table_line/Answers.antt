@@ -10,7 +10,7 @@ use Rattle.slave.specs.Files.{unlisted, listed_of}
 use Rattle.slave.proofs.files.table_line.Goals as goal
 
 -- the places of the commands that are no line of TABLE
-abbrev keys : List ℕ
+pub keys : List ℕ
 keys = 1 ∷ 2 ∷ 4 ∷ 5 ∷ 6 ∷ 7 ∷ 8 ∷ 9 ∷ 10 ∷ 11 ∷ []
 
 others : (t : List ℤ) (c : Command) → OneOf keys (tag_of the_type c) → unlisted t ≡ listed_of t c
@@ -30,12 +30,11 @@ others t Frame k = refl
 
 pub returns-in-Blank : goal.returns-in-Blank
 unfolding listed_of
-returns-in-Blank c = rw c.enum_told.given.1
+returns-in-Blank c = rw c.enum_told-1.given.1
 
 pub returns-in-Slot : goal.returns-in-Slot
 unfolding listed_of
-returns-in-Slot c =
-    let asked = c.c in
+returns-in-Slot c = let asked = c.c in
     let z : bk w32 asked.given.0.1.0 ≡ asked.given.0.1.0 = search rules in
     rw (asked.given.1, c.changed.ensures, z)
 

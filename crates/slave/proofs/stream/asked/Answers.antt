@@ -4,6 +4,5 @@ use Rattle.script.specs.Collector.{most}
 use Rattle.slave.proofs.stream.asked.Goals as goal
 
 pub asked-requires : goal.asked-requires
-asked-requires c =
-    let n : length c.args.line.bytes ≡ most = search rules in
+asked-requires c = let n : length c.args.line.bytes ≡ most = search rules in
     omega arith

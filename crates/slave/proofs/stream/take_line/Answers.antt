@@ -7,6 +7,5 @@ pub push-x-requires : goal.push-x-requires
 push-x-requires c = omega (arith, c.loop-i.invariant)
 
 pub loop-i-preserved : goal.loop-i-preserved
-loop-i-preserved c =
-    let push = c.before.before in
+loop-i-preserved c = let push = c in
     omega (arith, push.push-x.auto.0, push.loop-i.invariant)

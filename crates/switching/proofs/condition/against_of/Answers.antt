@@ -19,8 +19,7 @@ overflow_sub-result c = omega (arith, ints, fit (overflow_cast-result c), fit (o
 
 pub returns-then-mode-ge6 : goal.returns-then-mode-ge6
 unfolding against
-returns-then-mode-ge6 c =
-    let s = c.before in
+returns-then-mode-ge6 c = let s = c in
     rw (to_z-of_z (overflow_sub-result c), to_z-of_z (overflow_cast-result c), to_z-of_z (overflow_cast-result-then-mode-ge6 c), to_z-of_z s.ranges.partner, to_z-of_z s.ranges.own)
     (partner-mode s.args.mode _ _ _ c.if-mode-ge6.true)
 
@@ -29,13 +28,11 @@ overflow_cast-result-then-mode-ge3 c = omega (arith, ints)
 
 pub returns-then-mode-ge3 : goal.returns-then-mode-ge3
 unfolding against
-returns-then-mode-ge3 c =
-    let s = c.before.before in
+returns-then-mode-ge3 c = let s = c in
     rw (to_z-of_z (overflow_cast-result-then-mode-ge3 c), to_z-of_z s.ranges.own) (signed-mode s.args.mode _ _ _ c.if-mode-ge3.true c.if-mode-ge6.false)
 
 pub returns : goal.returns
 unfolding against
-returns c =
-    let s = c.before.before.before in
+returns c = let s = c in
     rw (back_at w64 c.without_sign.result c.without_sign.type_inv, c.without_sign.ensures, to_z-of_z s.ranges.own)
     (magnitude_of-mode s.args.mode _ _ _ c.if-mode-ge3.false)

@@ -10,8 +10,7 @@ use Rattle.switching.proofs.condition.compared_of.Goals as goal
 
 pub returns-then-mode-lt3 : goal.returns-then-mode-lt3
 unfolding compared
-returns-then-mode-lt3 c =
-    let s = c.before.before in
+returns-then-mode-lt3 c = let s = c in
     rw (back_at w64 c.without_sign.result c.without_sign.type_inv, c.without_sign.ensures, to_z-of_z s.ranges.r)
     (magnitude_of-mode s.args.mode _ _ _ c.if-mode-lt3.true)
 

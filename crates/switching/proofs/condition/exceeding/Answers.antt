@@ -8,8 +8,7 @@ use Rattle.switching.proofs.condition.exceeding.Goals as goal
 
 pub returns : goal.returns
 unfolding exceeds
-returns c =
-    let a = c.compared_of in
+returns c = let a = c.compared_of in
     let b = c.compared_of-2 in
     let f = c.ranges in
     rw (back_at w64 a.result a.type_inv, back_at w64 b.result b.type_inv, a.ensures, b.ensures, to_z-of_z f.own, to_z-of_z f.r)

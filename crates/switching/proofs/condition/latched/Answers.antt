@@ -9,8 +9,8 @@ returns-then-on c = simp c.if-on.true
 
 pub returns-then-not-off : goal.returns-then-not-off
 unfolding latched_of
-returns-then-not-off c = simp (c.if-on.false, not-true c.args.off c.if-not-off.true)
+returns-then-not-off c = simp (c.if-on.false, not-true c.args.off c.if-not-off.true-raw)
 
 pub returns-else-not-off : goal.returns-else-not-off
 unfolding latched_of
-returns-else-not-off c = simp (c.if-on.false, not-false c.args.off c.if-not-off.false)
+returns-else-not-off c = simp (c.if-on.false, not-false c.args.off c.if-not-off.false-raw)

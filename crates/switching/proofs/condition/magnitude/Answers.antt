@@ -9,11 +9,9 @@ pub overflow_sub-result : goal.overflow_sub-result
 overflow_sub-result c = omega (arith, ints, fit c.ranges.x)
 
 pub returns-then-x-lt0 : goal.returns-then-x-lt0
-returns-then-x-lt0 c =
-    let x = c.ranges.x in
+returns-then-x-lt0 c = let x = c.ranges.x in
     rw (to_z-of_z (overflow_sub-result c), to_z-of_z x) (magnitude_of-turn c.args.x (simp (to_z-of_z, x) at c.if-x-lt0.true))
 
 pub returns-else-x-lt0 : goal.returns-else-x-lt0
-returns-else-x-lt0 c =
-    let x = c.ranges.x in
+returns-else-x-lt0 c = let x = c.ranges.x in
     rw (to_z-of_z x) (magnitude_of-keep c.args.x (simp (to_z-of_z, x) at c.if-x-lt0.false))

@@ -10,18 +10,18 @@ use Rattle.integers.specs.IntLaws.{ints}
 use Rattle.switching.specs.Condition.{on_above}
 use Rattle.switching.proofs.condition.on_above.Goals as goal
 
--- h as it is read back
-h-is : (s : goal.Start) → to_z w64 s.args.h ≡ pos s.args.h
-h-is s = to_z_pos w64 (omega arith)
-
-end_fits : (s : goal.Start) → SFits w64 (s.args.p -ℤ pos s.args.h)
-end_fits s = omega (arith, ints)
-
 pub overflow_sub-p : goal.overflow_sub-p
-overflow_sub-p c = rw (to_z-of_z c.ranges.p, h-is c) (end_fits c)
+overflow_sub-p c =
+    let h-is : to_z w64 c.args.h ≡ pos c.args.h =
+    to_z_pos w64 (omega arith) in
+    let end_fits : SFits w64 (c.args.p -ℤ pos c.args.h) =
+    omega (arith, ints) in
+    rw (to_z-of_z c.ranges.p, h-is) (end_fits)
 
 pub returns : goal.returns
 unfolding on_above
 returns c =
-    let s = c.before in
-    rw (c.latched.ensures, to_z-of_z (overflow_sub-p s), to_z-of_z s.ranges.p, to_z-of_z s.ranges.r, h-is s)
+    let h-is : to_z w64 c.args.h ≡ pos c.args.h =
+    to_z_pos w64 (omega arith) in
+    let s = c in
+    rw (c.latched.ensures, to_z-of_z (overflow_sub-p s), to_z-of_z s.ranges.p, to_z-of_z s.ranges.r, h-is)

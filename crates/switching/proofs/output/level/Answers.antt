@@ -7,9 +7,9 @@ use Rattle.switching.proofs.output.level.Goals as goal
 
 pub returns : goal.returns
 unfolding some active_at low_at level_of
-returns c = let third = c.before.before.before in
-    let second = third.before.before.before in
-    let first = second.before.before.before in
+returns c = let third = c in
+    let second = third in
+    let first = second in
     rw (
       c.share-4.ensures,
       third.share-3.ensures,

@@ -5,5 +5,4 @@ use Rattle.switching.proofs.output.outputs.Goals as goal
 
 pub returns : goal.returns
 unfolding outputs_of
-returns c =
-    rw (c.level-fourth.ensures, c.level-third.ensures, c.level-second.ensures, c.level-first.ensures)
+returns c = rw (c.level-fourth.ensures, c.level-third.ensures, c.level-second.ensures, c.level-first.ensures)

@@ -10,8 +10,7 @@ pub returns-then-bytes-eq0 : goal.returns-then-bytes-eq0
 returns-then-bytes-eq0 c = rw (text-none _ c.if-bytes-eq0.true) (put-none _ _)
 
 pub returns : goal.returns
-returns c =
-    let args = c.args in
+returns c = let args = c.args in
     let n = c.if-bytes-eq0.false in
     rw (text-some args.bytes.now (omega arith))
     (put_both c.put_pair-p.ensures (rw (part-all args.bytes.now 1) at c.put_rest.ensures) (omega arith))

@@ -3,6 +3,5 @@ use borrow.Author.Rules.{rules}
 use Rattle.text.proofs.hex.put_pair.Goals as goal
 
 pub returns : goal.returns
-returns c =
-    let d = c.before.before.before.before.before in
+returns c = let d = c in
     rw (d.letter.ensures, d.letter-2.ensures) at c.put_bytes.ensures

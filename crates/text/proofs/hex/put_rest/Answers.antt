@@ -27,8 +27,7 @@ pub loop-i-smaller : goal.loop-i-smaller
 loop-i-smaller c = omega arith
 
 pub loop-i-preserved : goal.loop-i-preserved
-loop-i-preserved c =
-    let l = c.loop-i in
+loop-i-preserved c = let l = c.loop-i in
     let args = c.args in
     let h : l.i < length args.bytes.now = omega arith in
     let k : length (take l.i args.bytes.now) ≡ l.i = length-take-le l.i args.bytes.now (omega arith) in
@@ -44,7 +43,6 @@ pub shape_of-out : goal.shape_of-out
 shape_of-out c = c.loop-i.invariant.1
 
 pub returns : goal.returns
-returns c =
-    let l = c.loop-i in
+returns c = let l = c.loop-i in
     let bytes = c.args.bytes.now in
     rw (take_all l.i bytes c.loop-i-test.false) at l.invariant.3

@@ -6,12 +6,10 @@ use borrow.Author.Rules.{rules}
 use Rattle.text.proofs.words.only.Goals as goal
 
 pub returns-then-extra-eq0 : goal.returns-then-extra-eq0
-returns-then-extra-eq0 c =
-    let w = c.before.before in
+returns-then-extra-eq0 c = let w = c in
     c.word.ensures ∙ sym (only_one _ (rw (← w.rest-t.ensures, ← w.word-extra.ensures) c.if-extra-eq0.true))
 
 pub returns : goal.returns
-returns c =
-    let w = c.before.before in
+returns c = let w = c in
     let n = c.if-extra-eq0.false in
     sym (only_none _ (rw (← w.rest-t.ensures, ← w.word-extra.ensures) (omega arith)))

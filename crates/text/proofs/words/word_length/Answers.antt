@@ -14,8 +14,7 @@ pub bounds-s-i : goal.bounds-s-i
 bounds-s-i c = omega arith
 
 pub returns-then-s-i-eq32 : goal.returns-then-s-i-eq32
-returns-then-s-i-eq32 c =
-    let l = c.loop-i in
+returns-then-s-i-eq32 c = let l = c.loop-i in
     omega (arith, length-stop c.args.s.now l.i c.loop-i-test.true c.if-s-i-eq32.true, l.invariant.1)
 
 pub overflow_add-i : goal.overflow_add-i
@@ -25,8 +24,7 @@ pub loop-i-smaller : goal.loop-i-smaller
 loop-i-smaller c = omega arith
 
 pub loop-i-preserved : goal.loop-i-preserved
-loop-i-preserved c =
-    let l = c.loop-i in
+loop-i-preserved c = let l = c.loop-i in
     let n = length-next c.args.s.now l.i c.loop-i-test.true c.if-s-i-eq32.false in
     (omega arith, omega (arith, l.invariant.1))
 
