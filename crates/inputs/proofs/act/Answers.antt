@@ -47,4 +47,8 @@ returns c = let l = c.loop-i in
     let all : l.i ≡ 3 = omega arith in
     let f = state_of s.args.t.now s.args.l in
     let e = (rw all at l.invariant.1.0) ∙ all-inputs f s.args.levels in
-    (e, ((rw all at l.invariant.1.1) ∙ all-marks f s.args.levels, rw (← e) at (good-commands f s.args.levels s.requires)))
+    record {
+      is = e;
+      marks = (rw all at l.invariant.1.1) ∙ all-marks f s.args.levels;
+      valid = rw (← e) at (good-commands f s.args.levels s.requires);
+    }

@@ -12,4 +12,7 @@ pub returns : goal.returns
 returns c = let b = c in
     let a = b.action_at-a.ensures in
     let is = rw a at b.command-y.ensures.is in
-    (rw (c.first_note-note.ensures, ← is), rw a at b.command-y.ensures.marks)
+    record {
+      is = rw (c.first_note-note.ensures, ← is);
+      marks = rw a at b.command-y.ensures.marks;
+    }

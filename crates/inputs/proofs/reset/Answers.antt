@@ -28,4 +28,7 @@ returns c =
     let m = c in
     let b = m in
     let o = b.store_offset.ensures in
-    (rw (c.reread-live.ensures, m.read-m.ensures, o, start_is), rw (m.read-m.ensures, o, start_is))
+    record {
+      is = rw (c.reread-live.ensures, m.read-m.ensures, o, start_is);
+      marks = rw (m.read-m.ensures, o, start_is);
+    }

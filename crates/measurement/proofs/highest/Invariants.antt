@@ -15,7 +15,7 @@ use Rattle.measurement.specs.declared.Found.TheVariants.{At}
 use Rattle.measurement.proofs.highest.Given as goal
 
 abbrev pub invariant-loop-left : goal.invariant-loop-left
-invariant-loop-left l = (l.left ≤ l.n) × (highest_of l.points l.left (to_z w64 l.v) ≡ highest_of l.points l.n (to_z w64 l.v))
+invariant-loop-left l = (l.left ≤ l.n) × (highest_of l.points l.left l.v ≡ highest_of l.points l.n l.v)
 
 abbrev pub decreases-loop-left : goal.decreases-loop-left
 decreases-loop-left l = l.left

@@ -8,4 +8,7 @@ use Rattle.panel.proofs.load.Goals as goal
 pub returns : goal.returns
 unfolding loaded_of
 returns c = let l = c.load-l in
-    (rw (c.fresh-s.ensures, l.ensures), rw (c.fresh-s.ensures, l.ensures) (good-fresh (load-valid c.args.words.now)))
+    record {
+      is = rw (c.fresh-s.ensures, l.ensures);
+      valid = rw (c.fresh-s.ensures, l.ensures) (good-fresh (load-valid c.args.words.now));
+    }

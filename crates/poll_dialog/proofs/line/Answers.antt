@@ -13,4 +13,8 @@ returns c = let d = c in
     let s = r in
     let is = rw r.read-asked.ensures at d.done.ensures.is in
     let put = rw r.read-asked.ensures at d.done.ensures.text in
-    (is, (put, put-within put longest_line (line-at-most s.args.d s.args.bytes.now) (omega arith)))
+    record {
+      is = is;
+      text = put;
+      within = put-within put longest_line (line-at-most s.args.d s.args.bytes.now) (omega arith);
+    }

@@ -30,7 +30,7 @@ loop-at-preserved c = let call = c in
       search rules,
       search rules,
       at.loop-at.invariant.3 ∙ ap (λ (x : ℕ). take at.loop-at.at at.loop-at.output ++ in_groups 128 turned_bytes x (drop at.loop-at.at at.loop-at.output)) k
-          ∙ group-next 128 turned_bytes bytes-keep at.loop-at.output call.turn_group.new.0 at.loop-at.at ((n - (at.loop-at.at + 128)) / 128) (at.loop-at.at + 128 - at.loop-at.at)
+          ∙ group-next 128 turned_bytes bytes-keep at.loop-at.output call.turn_group.new.group at.loop-at.at ((n - (at.loop-at.at + 128)) / 128) (at.loop-at.at + 128 - at.loop-at.at)
           (omega arith) (omega arith) call.turn_group.ensures,
     )
 

@@ -27,4 +27,7 @@ returns c = let b = c in
     let z : (loaded_of s.table.now).refusal ≡ 0 = ap (λ (x : Loaded). x.refusal) (sym l.ensures.0) ∙ c.if-l-ne0.false in
     let e = rw (b.answered-first.ensures, l.ensures.0) at c.run_on-last.ensures.is in
     let last = e ∙ loaded-last s.table.now (events_in s.log.now) z in
-    (loaded-run s.table.now (events_in s.log.now) _ z last, loaded-promise s.table.now (events_in s.log.now) _ last)
+    record {
+      is = loaded-run s.table.now (events_in s.log.now) _ z last;
+      demand3 = loaded-promise s.table.now (events_in s.log.now) _ last;
+    }

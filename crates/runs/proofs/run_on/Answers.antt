@@ -37,4 +37,7 @@ loop-i-preserved c = let l = c.loop-i in
 pub returns : goal.returns
 returns c = let l = c.loop-i in
     let log = c.args.log.now in
-    (sym (l.invariant.2 ∙ words-end l.last log l.i (omega arith)), l.invariant.1)
+    record {
+      is = sym (l.invariant.2 ∙ words-end l.last log l.i (omega arith));
+      valid = l.invariant.1;
+    }

@@ -22,4 +22,7 @@ piece-requires c = let f = c in
 pub returns : goal.returns
 returns c = let g = c in
     let f = g in
-    (rw (f.frame-f.ensures, packed-bytes) at g.piece.ensures.is, rw (f.frame-f.ensures, packed-bytes) at g.piece.ensures.text)
+    record {
+      is = rw (f.frame-f.ensures, packed-bytes) at g.piece.ensures.is;
+      text = rw (f.frame-f.ensures, packed-bytes) at g.piece.ensures.text;
+    }

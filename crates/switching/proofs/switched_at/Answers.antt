@@ -19,6 +19,6 @@ pub returns : goal.returns
 unfolding switched_at
 returns c = let p = c in
     let s = p in
-    let other = preselection_at s.args.t1 p.partner_of.result in
+    let other = preselection_at s.args.ps p.partner_of.result in
     let value-is : bk w32 other.value ≡ other.value = search rules in
     rw (c.switched.ensures, value-is, to_z-of_z s.ranges.r, p.partner_of.ensures)
