@@ -1,7 +1,7 @@
 -- `bitplanes::crossed` meets its contract: the definition at the mask that it is handed.
 use native.Mathlib.Omega.{arith}
 use Rattle.bitplanes.specs.RoundSteps.{crossing}
-use Rattle.bitplanes.specs.MaskLaws.{sizes}
+use Rattle.bitplanes.proofs.MaskLaws.{sizes}
 use Rattle.bitplanes.proofs.crossed.Goals as goal
 
 pub overflow_cast-result : goal.overflow_cast-result

@@ -1,8 +1,8 @@
 -- `bitplanes::first` meets its contract: p & (w - 1) is the remainder of p by w.
 use Prim.Native.Nat.{◌-◌}
 use borrow.Author.Rules.{rules}
-use Rattle.bitplanes.specs.LoopLaws.{first-le, first-is}
-use Rattle.bitplanes.specs.MaskLaws.{sizes}
+use Rattle.bitplanes.proofs.LoopLaws.{first-le, first-is}
+use Rattle.bitplanes.proofs.MaskLaws.{sizes}
 use Rattle.bitplanes.proofs.first.Goals as goal
 
 pub overflow_sub-result : goal.overflow_sub-result

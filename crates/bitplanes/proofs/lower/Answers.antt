@@ -6,7 +6,7 @@ use native.Mathlib.Omega.{arith}
 use lib.Bits.{bit_xor}
 use borrow.Author.Rules.{rules}
 use Rattle.bitplanes.specs.RoundSteps.{lower_of}
-use Rattle.bitplanes.specs.MaskLaws.{sizes}
+use Rattle.bitplanes.proofs.MaskLaws.{sizes}
 use Rattle.bitplanes.proofs.lower.Goals as goal
 
 pub overflow_cast-result : goal.overflow_cast-result

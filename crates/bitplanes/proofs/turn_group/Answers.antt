@@ -1,7 +1,7 @@
 -- `bitplanes::turn_group` meets its contract: the five rounds turn a group (RoundLaws, five-rounds).
 use mathlib.Core.Path.{refl, ap, ◌∙◌}
 use Rattle.bitplanes.specs.RoundSteps.{by1, by2, by4, by8, by16, mask_of, exchanged}
-use Rattle.bitplanes.specs.RoundLaws.{five-rounds}
+use Rattle.bitplanes.proofs.RoundLaws.{five-rounds}
 use borrow.Author.Rules.{rules}
 use Rattle.bitplanes.proofs.turn_group.Goals as goal
 

@@ -4,7 +4,7 @@ use borrow.Author.Tests.{eq-eqb}
 use mathlib.Core.Path.{ap}
 use Rattle.state.specs.declared.State.{State}
 use Rattle.inputs.specs.Commands.{acted, clear_locks_of, clear_extremes_of, carried_out, marks_after}
-use Rattle.inputs.specs.CommandLaws.{reset-allowed}
+use Rattle.inputs.proofs.CommandLaws.{reset-allowed}
 use Rattle.inputs.proofs.carry_out.Goals as goal
 
 pub reset-requires : goal.reset-requires

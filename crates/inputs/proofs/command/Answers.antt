@@ -3,7 +3,7 @@ use borrow.Author.Rules.{rules}
 use borrow.Author.Tests.{eq-eqb, ne_eqb}
 use mathlib.Core.Path.{sym, ◌∙◌}
 use Rattle.inputs.specs.Commands.{command_of}
-use Rattle.inputs.specs.CommandLaws.{refused-keeps}
+use Rattle.inputs.proofs.CommandLaws.{refused-keeps}
 use Rattle.inputs.proofs.command.Goals as goal
 
 pub returns-then-note-ne0 : goal.returns-then-note-ne0

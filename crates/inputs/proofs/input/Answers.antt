@@ -1,6 +1,6 @@
 -- `inputs::input` meets its contract: the command of its action, on what is left so far, and its marks.
 use borrow.Author.Rules.{rules}
-use Rattle.inputs.specs.CommandLaws.{input-aimed}
+use Rattle.inputs.proofs.CommandLaws.{input-aimed}
 use Rattle.inputs.proofs.input.Goals as goal
 
 pub command-y-requires : goal.command-y-requires

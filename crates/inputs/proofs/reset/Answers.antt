@@ -6,7 +6,7 @@ use lib.IntN.{pos}
 use mir.Syntax.{w32}
 use mir.Val.{to_z}
 use mir.Facts.{to_z_pos}
-use Rattle.parameters.specs.StoreLaws.{valid-offset}
+use Rattle.parameters.proofs.StoreLaws.{valid-offset}
 use Rattle.reading.specs.Reading.{marked_of}
 use Rattle.state.specs.State.{reread_of}
 use Rattle.inputs.specs.Commands.{reset_of}

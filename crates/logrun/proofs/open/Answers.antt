@@ -4,7 +4,7 @@ use native.Mathlib.Omega.{arith}
 use borrow.Author.Tests.{eq-eqb, ne_eqb}
 use Rattle.lines.specs.LineLaws.{longest, header-line-at-most, load-line-at-most}
 use Rattle.panel.specs.Load.{loaded_of}
-use Rattle.parameters.specs.LoadLaws.{slot_small}
+use Rattle.parameters.proofs.LoadLaws.{slot_small}
 use Rattle.text.specs.PutLaws.{put-within}
 use Rattle.logrun.specs.Input.{table_of}
 use Rattle.logrun.specs.Output.{opening_text}

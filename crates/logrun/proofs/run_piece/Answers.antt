@@ -7,7 +7,7 @@ use lib.ListN.{length}
 use Rattle.lines.specs.LineLaws.{longest}
 use Rattle.text.specs.PutLaws.{put-room, put_both}
 use Rattle.logrun.specs.Pieces.{goes_on}
-use Rattle.logrun.specs.PieceLaws.{piece-goes, piece-ends, lines-at-most}
+use Rattle.logrun.proofs.PieceLaws.{piece-goes, piece-ends, lines-at-most}
 use borrow.Author.Rules.{rules}
 use Rattle.logrun.proofs.run_piece.Goals as goal
 

@@ -8,7 +8,7 @@ use lib.ListN.{length}
 use Rattle.integers.specs.IntLaws.{back_at}
 use mathlib.Core.Bool.{false}
 use Rattle.modbus.specs.Request.{is_unknown, wrong_amount, wrong_start, request_in}
-use Rattle.modbus.specs.WholeLaws.{Whole, whole, known-long, write-long}
+use Rattle.modbus.proofs.WholeLaws.{Whole, whole, known-long, write-long}
 use Rattle.modbus.proofs.requested.Goals as goal
 use Rattle.modbus.proofs.requested.Tie as tie
 

@@ -1,8 +1,8 @@
 -- `panel::load` meets its contract: whatever is loaded, the table is valid, and its fresh state too.
 use borrow.Author.Rules.{rules}
-use Rattle.parameters.specs.ValidLaws.{load-valid}
+use Rattle.parameters.proofs.ValidLaws.{load-valid}
 use Rattle.panel.specs.Load.{loaded_of}
-use Rattle.state.specs.ValidLaws.{good-fresh}
+use Rattle.state.proofs.ValidLaws.{good-fresh}
 use Rattle.panel.proofs.load.Goals as goal
 
 pub returns : goal.returns

@@ -2,7 +2,7 @@
 use native.Mathlib.Omega.{arith}
 use Rattle.text.specs.PutLaws.{put-within}
 use Rattle.poll_dialog.specs.Dialog.{longest_line, after_line, line_text}
-use Rattle.poll_dialog.specs.DialogLaws.{line-at-most}
+use Rattle.poll_dialog.proofs.DialogLaws.{line-at-most}
 use borrow.Author.Rules.{rules}
 use Rattle.poll_dialog.proofs.line.Goals as goal
 

@@ -5,9 +5,9 @@ use Prim.Native.Nat.{ℕ}
 use native.Mathlib.Omega.{arith}
 use lib.ListN.{length, drop, replicate, drop_of_length-le}
 use Rattle.bitplanes.specs.Turned.{turned_group, turned}
-use Rattle.bitplanes.specs.TurnedLaws.{filled-long, turned-one}
+use Rattle.bitplanes.proofs.TurnedLaws.{filled-long, turned-one}
 use Rattle.events.specs.Bytes.{bytes_of}
-use Rattle.recorder.specs.RecordedLaws.{group-words}
+use Rattle.recorder.proofs.RecordedLaws.{group-words}
 use borrow.Author.Rules.{rules}
 use Rattle.recorder.proofs.turn_group.Goals as goal
 

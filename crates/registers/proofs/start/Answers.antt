@@ -1,7 +1,7 @@
 -- `registers::start` meets its contract: a node address leads to the load, another to 33.
 use borrow.Author.Rules.{rules}
-use Rattle.state.specs.ValidLaws.{good-fresh}
-use Rattle.parameters.specs.ValidLaws.{defaults-valid}
+use Rattle.state.proofs.ValidLaws.{good-fresh}
+use Rattle.parameters.proofs.ValidLaws.{defaults-valid}
 use Rattle.registers.specs.Start.{started_of}
 use Rattle.registers.proofs.start.Goals as goal
 

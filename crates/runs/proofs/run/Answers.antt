@@ -5,7 +5,7 @@ use Rattle.panel.specs.declared.Loaded.{Loaded}
 use Rattle.panel.specs.Load.{loaded_of}
 use Rattle.panel.specs.Step.{answer_of}
 use Rattle.runs.specs.Words.{events_in}
-use Rattle.runs.specs.RanLaws.{refused-run, refused-promise, loaded-last, loaded-run, loaded-promise}
+use Rattle.runs.proofs.RanLaws.{refused-run, refused-promise, loaded-last, loaded-run, loaded-promise}
 use Rattle.runs.proofs.run.Goals as goal
 
 pub returns-then-l-ne0 : goal.returns-then-l-ne0

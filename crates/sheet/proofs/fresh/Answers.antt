@@ -1,6 +1,6 @@
 -- `sheet::fresh` meets its contract: the defaults, whose fresh state is valid.
-use Rattle.state.specs.ValidLaws.{good-fresh}
-use Rattle.parameters.specs.ValidLaws.{defaults-valid}
+use Rattle.state.proofs.ValidLaws.{good-fresh}
+use Rattle.parameters.proofs.ValidLaws.{defaults-valid}
 use Rattle.sheet.specs.Sheet.{fresh_sheet}
 use borrow.Author.Rules.{rules}
 use Rattle.sheet.proofs.fresh.Goals as goal

@@ -6,7 +6,7 @@ use mir.Syntax.{w32}
 use mir.Facts.{to_z-of_z}
 use Rattle.integers.specs.IntLaws.{bk}
 use Rattle.switching.specs.Switching.{switched_at, preselection_at}
-use Rattle.switching.specs.SwitchingLaws.{partner-below}
+use Rattle.switching.proofs.SwitchingLaws.{partner-below}
 use Rattle.switching.proofs.switched_at.Goals as goal
 
 pub offset_bounds-ps-partner_of : goal.offset_bounds-ps-partner_of
