@@ -1,6 +1,6 @@
 -- Demand 3's accuracy, for one reading: a result without error lies within 1/2 + S/2 of L(E), and with linearization off within 1/2 (S is 0 there).
 -- The scaling rounds once, by at most 1/2; the curve carries that on by at most S times as much and rounds once more. Assumes nothing.
-use Rattle.std.specs.Prelude.{◌≡◌, refl, Bool, List, [], ◌∷◌, ℕ, zero, suc, ◌+◌, ◌*◌, ◌-◌, ◌≤◌, ◌<◌, ℤ, pos, neg_ℤ, nat_abs, ◌*ℤ◌}
+use Rattle.std.specs.Prelude.{◌≡◌, refl, Bool, List, [], ◌∷◌, ℕ, zero, suc, ◌+◌, ◌*◌, ◌≤◌, ◌<◌, ℤ, pos, neg_ℤ, nat_abs, ◌*ℤ◌}
 use Rattle.std.proofs.Common.{sym, ap, subst, mul-le-mul_right, le_of_mul-le-mul_right, mul-pos, arith}
 use Rattle.std.specs.Int.Signed.{lt_z}
 use Rattle.integers.specs.Limit.{Z}
@@ -10,7 +10,6 @@ use Rattle.integers.specs.RingLaws.{var, lit, ◌⊕◌, ◌⊖◌, ◌⊗◌, r
 use Rattle.integers.specs.Round.{round_div}
 use Rattle.integers.proofs.RoundLaws.{off, round-near, round-one}
 use Rattle.measurement.specs.declared.Error.{Error}
-use Rattle.measurement.specs.declared.Error.TheVariants as Error
 use Rattle.measurement.specs.declared.Measured.{Measured}
 use Rattle.measurement.specs.declared.Scaling.{Scaling}
 use Rattle.integers.specs.Fraction.{Frac, Ratio, at_most, whole, nearest, gap, apart, allowed, Accurate}

@@ -1,6 +1,6 @@
 -- The curve is nowhere steeper than S, and its fractions have a lower number above zero. Paper 01, "From telegram to result", step 4: L and S.
 -- Two values on one segment differ by the slope times the distance; across a point the two ways add up. Assumes nothing.
-use Rattle.std.specs.Prelude.{◌≡◌, not, ℕ, ◌+◌, ◌*◌, ◌-◌, ◌≤◌, ◌<◌, leb, ℤ, pos, nat_abs, ◌+ℤ◌, ◌-ℤ◌, ◌*ℤ◌}
+use Rattle.std.specs.Prelude.{◌≡◌, not, ℕ, ◌+◌, ◌*◌, ◌≤◌, ◌<◌, leb, ℤ, pos, nat_abs, ◌+ℤ◌, ◌-ℤ◌, ◌*ℤ◌}
 use Rattle.std.proofs.Common.{ap, ◌∙◌, subst, mul-le-mul_left, mul-le-mul_right, le_of_mul-le-mul_right, mul-pos, arith, leb→le}
 use mathlib.Core.List.{List, [], ◌∷◌}
 use Rattle.std.proofs.Math.Dec.{T, nleb→lt}

@@ -1,12 +1,11 @@
 -- From position to result: steps 1 to 3 and 5 of paper 01, "From telegram to result" (step 4 is in Curve), and the exact value E.
 -- Assumes nothing.
-use Rattle.std.specs.Prelude.{ℕ, ◌+◌, ◌-◌, ◌*◌, ◌%◌, ◌^◌, Bool, cond, List, eqb, ℤ, pos, neg_ℤ, ◌+ℤ◌, ◌-ℤ◌, ◌*ℤ◌}
+use Rattle.std.specs.Prelude.{ℕ, ◌-◌, ◌%◌, ◌^◌, Bool, cond, List, eqb, ℤ, pos, neg_ℤ, ◌+ℤ◌, ◌-ℤ◌, ◌*ℤ◌}
 use Rattle.std.specs.Int.Signed.{lt_z}
 use Rattle.integers.specs.Limit.{Z}
 use Rattle.integers.specs.declared.Rounded.{Rounded}
 use Rattle.integers.specs.Round.{round_div, halved, floor_mod}
 use Rattle.measurement.specs.declared.Error.{Error}
-use Rattle.measurement.specs.declared.Error.TheVariants as Error
 use Rattle.measurement.specs.declared.Measured.{Measured}
 use Rattle.measurement.specs.declared.Measurement.{Measurement}
 use Rattle.measurement.specs.declared.Scaling.{Scaling}

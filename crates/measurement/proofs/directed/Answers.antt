@@ -1,8 +1,7 @@
 -- `measurement::directed` meets its contract: 1 << width is 2 ^ width, and a remainder by it fits 32 bits.
-use borrow.Author.Rules.{rules}
 use borrow.Author.Tests.{eq-eqb, ne_eqb}
 use mathlib.Core.Path.{◌≡◌, ◌∙◌}
-use Prim.Native.Nat.{◌*◌, ◌-◌, ◌%◌, ◌^◌, ◌<◌}
+use Prim.Native.Nat.{◌*◌, ◌-◌, ◌%◌, ◌^◌}
 use native.Mathlib.Nat.{mod-lt, one-mul, lt_of_lt_of_le}
 use native.Mathlib.Omega.{arith}
 use lib.Dec.{lit<}

@@ -1,5 +1,4 @@
 -- `measurement::four_quadrants` meets its contract: `from_point` answers where a point was found, and the first point's y where none was (`value_none`).
-use borrow.Author.Rules.{rules}
 use mathlib.Core.Path.{sym, ap, ◌∙◌}
 use native.Mathlib.Omega.{arith}
 use lib.IntN.{pos}
@@ -33,6 +32,6 @@ returns-in-At c = let s = c in
 pub returns-in-Nothing : goal.returns-in-Nothing
 returns-in-Nothing c = let s = c in
     let h = c.highest in
-    let e = rw (to_z-of_z s.ranges.v) at (sym h.ensures ∙ c.enum_told-1.given.1) in
+    let e = rw (to_z-of_z s.ranges.v) at (sym h.ensures ∙ c.in-Nothing.is) in
     let w = rw (to_z-of_z (overflow_cast-points c.before), back_at w32 (get_or s.args.points.now 1 (pos 0)) c.whole-arg-1.given) at c.whole.ensures in
     w ∙ ap rounded (sym (value_none s.requires s.args.v e))

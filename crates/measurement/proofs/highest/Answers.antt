@@ -2,12 +2,11 @@
 -- The measure is how many are left. K3 in the proof: at first all n are left (`loop-holds`), and the point looked at is the last one left (`last-looked-at`).
 use mathlib.Core.Bool.{Bool, true, false, cond}
 use mathlib.Core.Path.{◌≡◌, refl, sym, ◌∙◌}
-use Prim.Native.Nat.{◌≤◌, ◌-◌}
+use Prim.Native.Nat.{◌-◌}
 use native.Mathlib.Omega.{arith}
 use lib.IntN.{ℤ}
 use lib.Signed.{le_z}
 use mir.Syntax.{w64}
-use mir.Val.{to_z}
 use mir.Facts.{to_z-of_z}
 use Rattle.integers.specs.IntLaws.{bk, back_at}
 use Rattle.measurement.specs.Curve.{point_at, highest_of}
@@ -27,7 +26,7 @@ x_of-requires c = omega arith
 pub returns-then-x_of-v : goal.returns-then-x_of-v
 returns-then-x_of-v c =
     let last_x : ℤ =
-    (point_at c.args.points.now (c.loop-left.false - 1)).x in
+    (point_at c.args.points.now (c.loop-left.left - 1)).x in
     let last-looked-at : bk w64 c.x_of.result ≡ last_x =
     back_at w64 c.x_of.result c.x_of.type_inv ∙ c.x_of.ensures in
     let last_fits : Bool =
@@ -36,7 +35,7 @@ returns-then-x_of-v c =
     rw (last-looked-at) at c.if-x_of-v.true in
     let first-look : let s = c in
     let ws = s.args.points.now in
-    let left = c.loop-left.false in
+    let left = c.loop-left.left in
     let v = bk w64 s.args.v in
     cond (last_fits) (At (left - 1)) (highest_of ws (left - 1) v) ≡ highest_of ws s.args.n v =
     let l = c.loop-left in sym (last-first _ l.left _ (omega arith)) ∙ l.invariant.1 in
@@ -52,7 +51,7 @@ loop-left-smaller c = omega arith
 pub loop-left-preserved : goal.loop-left-preserved
 loop-left-preserved c =
     let last_x : ℤ =
-    (point_at c.args.points.now (c.loop-left.false - 1)).x in
+    (point_at c.args.points.now (c.loop-left.left - 1)).x in
     let last-looked-at : bk w64 c.x_of.result ≡ last_x =
     back_at w64 c.x_of.result c.x_of.type_inv ∙ c.x_of.ensures in
     let last_fits : Bool =
@@ -61,7 +60,7 @@ loop-left-preserved c =
     rw (last-looked-at) at c.if-x_of-v.false in
     let first-look : let s = c in
     let ws = s.args.points.now in
-    let left = c.loop-left.false in
+    let left = c.loop-left.left in
     let v = bk w64 s.args.v in
     cond (last_fits) (At (left - 1)) (highest_of ws (left - 1) v) ≡ highest_of ws s.args.n v =
     let l = c.loop-left in sym (last-first _ l.left _ (omega arith)) ∙ l.invariant.1 in

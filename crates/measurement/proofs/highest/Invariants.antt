@@ -1,17 +1,7 @@
 -- `measurement::highest` meets its contract. The loop's invariant: the search among the points that are left finds what the search among all n does.
-use mathlib.Core.Bool.{Bool, true, false, cond}
-use mathlib.Core.Path.{◌≡◌, refl, sym, ◌∙◌}
-use Prim.Native.Nat.{◌≤◌, ◌-◌}
-use native.Mathlib.Omega.{arith}
-use lib.IntN.{ℤ}
-use lib.Signed.{le_z}
-use mir.Syntax.{w64}
-use mir.Val.{to_z}
-use mir.Facts.{to_z-of_z}
-use Rattle.integers.specs.IntLaws.{bk, back_at}
-use Rattle.measurement.specs.Curve.{point_at, highest_of}
-use Rattle.measurement.proofs.SearchLaws.{last-first}
-use Rattle.measurement.specs.declared.Found.TheVariants.{At}
+use mathlib.Core.Path.{◌≡◌}
+use Prim.Native.Nat.{◌≤◌}
+use Rattle.measurement.specs.Curve.{highest_of}
 use Rattle.measurement.proofs.highest.Given as goal
 
 abbrev pub invariant-loop-left : goal.invariant-loop-left

@@ -1,5 +1,4 @@
 -- `measurement::judged` meets its contract: each way out is the case of the definition that its tests pick.
-use borrow.Author.Rules.{rules}
 use native.Mathlib.Omega.{arith}
 use mir.Syntax.{w32}
 use mir.Val.{SFits}

@@ -1,5 +1,4 @@
 -- `measurement::linearized` meets its contract: each mode's function answers its case of the curve.
-use borrow.Author.Rules.{rules}
 use mathlib.Core.Path.{sym, ap, ◌∙◌}
 use native.Mathlib.Omega.{arith}
 use mir.Facts.{to_z-of_z}
@@ -14,7 +13,7 @@ one_quadrant-requires c = let s = c in
     (usable s.args.mode (λ e. omega (arith, e, c.in-1.is)) s.requires.0, kept s.ranges.v s.requires.1)
 
 pub four_quadrants-requires : goal.four_quadrants-requires
-four_quadrants-requires c = usable c.args.mode c.match.rest.0.1 c.requires.0
+four_quadrants-requires c = usable c.args.mode (λ e. omega (arith, e)) c.requires.0
 
 pub returns-in-0 : goal.returns-in-0
 unfolding linearized_by curve
@@ -27,5 +26,4 @@ returns-in-1 c = rw c.in-1.is (rw (to_z-of_z c.ranges.v) at c.one_quadrant.ensur
 pub returns-in_default : goal.returns-in_default
 unfolding linearized_by
 returns-in_default c = let s = c in
-    let m = c.match.rest in
-    (rw (to_z-of_z s.ranges.v) at c.four_quadrants.ensures) ∙ sym (ap rounded (curve-four s.args.mode _ _ m.0.1 m.1))
+    (rw (to_z-of_z s.ranges.v) at c.four_quadrants.ensures) ∙ sym (ap rounded (curve-four s.args.mode _ _ (λ e. omega (arith, e)) (λ e. omega (arith, e))))

@@ -1,5 +1,4 @@
 -- `measurement::on_line` meets its contract: every number stays below 10^17, and what is divided is the line's whole fraction (`line-value`).
-use borrow.Author.Rules.{rules}
 use mathlib.Core.Path.{◌∙◌}
 use native.Mathlib.Omega.{arith}
 use lib.Dec.{lit<}
@@ -102,7 +101,7 @@ overflow_add-start c =
     (lit< tt)
 
 pub returns : goal.returns
-returns c = let s = c in
+returns c = let s = c.before in
     let q = c.round_div in
     let f = s.ranges in
     let e = rw (to_z-of_z (overflow_add-start s), to_z-of_z (overflow_mul-start s), to_z-of_z (overflow_mul-rise s), to_z-of_z (overflow_sub-rise s), to_z-of_z (overflow_sub-dx s), to_z-of_z (overflow_sub-dy s), to_z-of_z (overflow_cast-dx s), to_z-of_z (overflow_cast-dx-2 s), to_z-of_z (overflow_cast-dy s), to_z-of_z (overflow_cast-dy-2 s), to_z-of_z f.x, to_z-of_z f.y, to_z-of_z f.x1, to_z-of_z f.y1, to_z-of_z f.v) at q.ensures in

@@ -36,7 +36,7 @@ overflow_add-value c =
     rw (factor-is) (record { above = c.requires.1; below = omega arith }) in
     let d-size : Within 4394967294 (bk w64 c.args.d) =
     kept c.ranges.d c.requires.0 in
-    let s = c in
+    let s = c.before.before.before in
     let q = c.round_div-q in
     let w = round-within (to_z w64 s.args.divider) (kept (overflow_mul-d s) (mul-within (d-size) (factor-size))) in
     let v : bk w64 q.result.value ≡ q.result.value = search rules in
@@ -46,7 +46,7 @@ pub returns : goal.returns
 returns c =
     let factor-is : to_z w64 c.args.factor ≡ pos c.args.factor =
     to_z_pos w64 {n = c.args.factor} (omega arith) in
-    let s = c in
+    let s = c.before.before.before in
     let q = c.round_div-q in
     let e = rw (to_z-of_z (overflow_mul-d s), to_z-of_z s.ranges.d, factor-is, to_z_pos w64 {n = s.args.divider} (omega arith)) at q.ensures in
     let v : bk w64 q.result.value ≡ q.result.value = search rules in

@@ -1,5 +1,4 @@
 -- `measurement::x_of` meets its contract: the word at 2i, cast to 64 bits, is the point's x.
-use borrow.Author.Rules.{rules}
 use mir.Syntax.{w32}
 use mir.Val.{SFits}
 use mir.Facts.{to_z-of_z, sfits_widen}

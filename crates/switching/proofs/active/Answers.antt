@@ -1,5 +1,4 @@
 -- `switching::active` meets its contract: each way out has the test of the lock.
-use borrow.Author.Rules.{rules}
 use Rattle.switching.specs.Switching.{active_of}
 use Rattle.switching.proofs.active.Goals as goal
 

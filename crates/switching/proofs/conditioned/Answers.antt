@@ -1,5 +1,4 @@
 -- `switching::conditioned` meets its contract: its fields are what the two calls give.
-use borrow.Author.Rules.{rules}
 use mir.Facts.{to_z-of_z}
 use Rattle.switching.specs.Switching.{conditioned_of}
 use Rattle.switching.proofs.conditioned.Goals as goal

@@ -1,5 +1,4 @@
 -- `switching::locked` meets its contract: where a lock is set up, the new lock is what is active; elsewhere it is kept.
-use borrow.Author.Rules.{rules}
 use borrow.Author.Tests.{eq-eqb, ne_eqb}
 use Rattle.switching.specs.Switching.{locked_of}
 use Rattle.switching.proofs.locked.Goals as goal

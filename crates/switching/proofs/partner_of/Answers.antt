@@ -1,5 +1,6 @@
 -- `switching::partner_of` meets its contract: each arm of the match is a clause of the definition.
 use mathlib.Core.Path.{◌≡◌, refl}
+use native.Mathlib.Omega.{arith}
 use Prim.Native.Nat.{ℕ, zero, suc}
 use Rattle.switching.specs.Switching.{partner_of}
 use Rattle.switching.proofs.partner_of.Goals as goal
@@ -24,4 +25,4 @@ unfolding partner_of
 returns-in-2 c = rw c.in-2.is
 
 pub returns-in_default : goal.returns-in_default
-returns-in_default c = let n = c.match.rest in rest c.args.k n.0.0.1 n.0.1 n.1
+returns-in_default c = rest c.args.k (λ e. omega (arith, e)) (λ e. omega (arith, e)) (λ e. omega (arith, e))

@@ -1,5 +1,4 @@
 -- `switching::switched` meets its contract: suppression, condition with pulse, and lock, one after the other.
-use borrow.Author.Rules.{rules}
 use mir.Facts.{to_z-of_z}
 use Rattle.switching.specs.Switching.{switched_of}
 use Rattle.switching.proofs.switched.Goals as goal

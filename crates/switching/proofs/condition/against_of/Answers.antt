@@ -1,6 +1,5 @@
 -- `switching::condition::against_of` meets its contract: from mode 6 on the difference, from mode 3 on P, below P without its sign.
 use native.Mathlib.Omega.{arith}
-use borrow.Author.Rules.{rules}
 use mir.Syntax.{w64}
 use mir.Facts.{to_z-of_z}
 use Rattle.integers.specs.IntLaws.{ints, fit, back_at}

@@ -1,6 +1,5 @@
 -- `switching::condition::compared_of` meets its contract: below mode 3 the result without its sign, from mode 3 on the result.
 use native.Mathlib.Omega.{arith}
-use borrow.Author.Rules.{rules}
 use mir.Syntax.{w64}
 use mir.Facts.{to_z-of_z}
 use Rattle.integers.specs.IntLaws.{ints, back_at}

@@ -1,6 +1,6 @@
 -- `switching::condition::condition` meets its contract: what the two calls give is what the mode compares, and each arm of the match has the mode's rule.
 use mathlib.Core.Path.{◌≡◌}
-use borrow.Author.Rules.{rules}
+use native.Mathlib.Omega.{arith}
 use mir.Syntax.{w64}
 use mir.Facts.{to_z-of_z}
 use Rattle.integers.specs.Int.{Within}
@@ -71,4 +71,4 @@ returns-in_default c =
     let f = c.ranges in
     rw (back_at w64 c.against_of-p.result c.against_of-p.type_inv, c.against_of-p.ensures, to_z-of_z f.own, to_z-of_z f.partner) in
     let a = c in
-    rw (c.on_above.ensures, x-is, p-is) (rule-above _ _ _ _ _ c.match.rest.0.1 c.match.rest.1)
+    rw (c.on_above.ensures, x-is, p-is) (rule-above _ _ _ _ _ (λ e. omega (arith, e)) (λ e. omega (arith, e)))

@@ -1,7 +1,6 @@
 -- `switching::condition::exceeding` meets its contract: it compares what the two calls give.
 use mir.Syntax.{w64}
 use mir.Facts.{to_z-of_z}
-use borrow.Author.Rules.{rules}
 use Rattle.integers.specs.IntLaws.{back_at}
 use Rattle.switching.specs.Condition.{exceeds}
 use Rattle.switching.proofs.condition.exceeding.Goals as goal

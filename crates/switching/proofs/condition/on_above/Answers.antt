@@ -1,7 +1,6 @@
 -- `switching::condition::on_above` meets its contract: the call gets the two tests of the definition, with P − h made in 64 bits.
 use mathlib.Core.Path.{◌≡◌}
 use native.Mathlib.Omega.{arith}
-use borrow.Author.Rules.{rules}
 use lib.IntN.{pos, ◌-ℤ◌}
 use mir.Syntax.{w64}
 use mir.Val.{SFits, to_z}
@@ -23,5 +22,5 @@ unfolding on_above
 returns c =
     let h-is : to_z w64 c.args.h ≡ pos c.args.h =
     to_z_pos w64 (omega arith) in
-    let s = c in
+    let s = c.before in
     rw (c.latched.ensures, to_z-of_z (overflow_sub-p s), to_z-of_z s.ranges.p, to_z-of_z s.ranges.r, h-is)

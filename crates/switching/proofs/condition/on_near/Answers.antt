@@ -1,6 +1,5 @@
 -- `switching::condition::on_near` meets its contract: the distance is the difference without its sign, and twice it is held against h.
 use native.Mathlib.Omega.{arith}
-use borrow.Author.Rules.{rules}
 use mathlib.Core.Path.{◌≡◌}
 use lib.Dec.{lit<}
 use lib.IntN.{pos, ◌-ℤ◌}
@@ -25,7 +24,13 @@ magnitude-d-requires c =
     rw (to_z-of_z (overflow_sub-r c), to_z-of_z c.ranges.r, to_z-of_z c.ranges.p) (apart-within)
 
 pub overflow_mul-result : goal.overflow_mul-result
-overflow_mul-result c = rw (apart-is c) (fits-within (mul-within {a = pos 2} two (magnitude_of-within (apart-within c))) (lit< tt))
+overflow_mul-result c =
+    let s = c.before in
+    let apart-within : Within 8589934592 (c.args.r -ℤ c.args.p) =
+    sub_within c.requires.0 c.requires.1 in
+    let apart-is : bk w64 c.magnitude-d.result ≡ magnitude_of (c.args.r -ℤ c.args.p) =
+    rw (back_at w64 c.magnitude-d.result c.magnitude-d.type_inv, c.magnitude-d.ensures, to_z-of_z (overflow_sub-r s), to_z-of_z s.ranges.r, to_z-of_z s.ranges.p) in
+    rw apart-is (fits-within (mul-within {a = pos 2} two (magnitude_of-within apart-within)) (lit< tt))
   where
     two : Within 2 (pos 2)
     two = record { above = omega arith; below = omega arith }
@@ -33,7 +38,7 @@ overflow_mul-result c = rw (apart-is c) (fits-within (mul-within {a = pos 2} two
 pub returns : goal.returns
 returns c =
     let apart-is : bk w64 c.magnitude-d.result ≡ magnitude_of (c.args.r -ℤ c.args.p) =
-    let s = c in
+    let s = c.before in
     rw (back_at w64 c.magnitude-d.result c.magnitude-d.type_inv, c.magnitude-d.ensures, to_z-of_z (overflow_sub-r s), to_z-of_z s.ranges.r, to_z-of_z s.ranges.p) in
     let s = c in
     rw (to_z-of_z (overflow_mul-result c), apart-is, to_z_pos w64 {n = s.args.h} (omega arith)) (near-is s.args.r s.args.p s.args.h)

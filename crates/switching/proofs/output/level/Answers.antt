@@ -1,5 +1,4 @@
 -- `switching::output::level` meets its contract: the four marks joined have the tests of the four preselections joined.
-use borrow.Author.Rules.{rules}
 use Rattle.integers.specs.Choice.{some}
 use Rattle.switching.specs.Outputs.{active_at, low_at, level_of}
 use Rattle.switching.specs.MarkSteps.{marks-joined, marked-level}

@@ -1,5 +1,4 @@
 -- `switching::output::mark` meets its contract.
-use borrow.Author.Rules.{rules}
 use native.Mathlib.Omega.{arith}
 use lib.Dec.{eqb}
 use Rattle.switching.specs.Switching.{active_of}

@@ -1,5 +1,4 @@
 -- `switching::output::outputs` meets its contract: the four levels are what the four calls give.
-use borrow.Author.Rules.{rules}
 use Rattle.switching.specs.Outputs.{outputs_of}
 use Rattle.switching.proofs.output.outputs.Goals as goal
 

@@ -1,5 +1,4 @@
 -- `switching::output::share` meets its contract: each way out has the test of the target.
-use borrow.Author.Rules.{rules}
 use borrow.Author.Tests.{eq-eqb, ne_eqb}
 use Rattle.switching.proofs.output.share.Goals as goal
 
