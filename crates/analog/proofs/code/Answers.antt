@@ -24,14 +24,14 @@ overflow_cast-code c =
     rw (
       back_at w64 c.hold-code.result c.hold-code.type_inv,
       c.hold-code.ensures,
-      back_at w64 l.result l.type-inv,
+      back_at w64 l.result l.type_inv,
       back_at w64 h.result h.type_inv,
       v,
       l.ensures,
       h.ensures,
       z-is,
     ) in
-    rw (held-is) (fits-within (fits-small _ _ (code_fits _ _ _ _)) (lit< tt))
+    rw (held-is) (fits-within (fits-small _ _ (code_fits _ c.args.start c.args.end c.args.r)) (lit< tt))
 
 pub returns : goal.returns
 unfolding coded_of code_half rounding code_of
@@ -46,7 +46,7 @@ returns c =
     rw (
       back_at w64 c.hold-code.result c.hold-code.type_inv,
       c.hold-code.ensures,
-      back_at w64 l.result l.type-inv,
+      back_at w64 l.result l.type_inv,
       back_at w64 h.result h.type_inv,
       v,
       l.ensures,

@@ -2,6 +2,7 @@
 -- and that no step rounds are laws about that drive.
 use mathlib.Core.Path.{◌≡◌, sym, ap, subst, subst₂, ◌∙◌}
 use Prim.Native.Nat.{ℕ, suc}
+use native.Mathlib.Omega.{arith}
 use lib.IntN.{ℤ}
 use lib.Ieee.{Float}
 use mir.Facts.{to_z-of_z}
@@ -14,8 +15,8 @@ use Rattle.analog.proofs.DriveLaws.{unrounded, drive-worth, from-two-fits, from-
 use Rattle.analog.proofs.drive_of.Goals as goal
 
 -- the float promise, once the drive is known
-pub promised : (d : Drive) (k : ℕ) (z : ℤ) → CodeFits k z → d ≡ drive_of k z → (d ≡ drive_of k z) × (Same (drive_value d) (analog_value k z) × Unrounded k z)
-promised d k z h e = (e, (subst (λ (x : Drive). Same (drive_value x) (analog_value k z)) (sym e) (drive-worth k z h), unrounded k z h))
+pub promised : (d : Drive) (k : ℕ) (z : ℤ) → CodeFits k z → d ≡ drive_of k z → record { is : d ≡ drive_of k z; worth : Same (drive_value d) (analog_value k z); unrounded : Unrounded k z }
+promised d k z h e = record { is = e; worth = subst (λ (x : Drive). Same (drive_value x) (analog_value k z)) (sym e) (drive-worth k z h); unrounded = unrounded k z h }
 
 -- an arm's drive: k is the arm's format n, and y, what the machine reads back, is the code z
 pub volts-is : (x : Float) (k : ℕ) (y z : ℤ) → k ≡ 0 → y ≡ z → x ≡ float_of 0 y → Volts x ≡ drive_of k z
@@ -34,7 +35,7 @@ milliamps20-requires c = subst₂ CodeFits c.in-1.is (sym (to_z-of_z c.ranges.co
 
 pub milliamps4-requires : goal.milliamps4-requires
 milliamps4-requires c = subst (CodeFits 2) (sym (to_z-of_z c.ranges.code))
-    (from-two-fits _ _ c.match.rest.0.1 c.match.rest.1 c.requires)
+    (from-two-fits _ _ (λ e. omega (arith, e)) (λ e. omega (arith, e)) c.requires)
 
 pub returns-in-0 : goal.returns-in-0
 returns-in-0 c = let s = c in
@@ -47,6 +48,5 @@ returns-in-1 c = let s = c in
 
 pub returns-in_default : goal.returns-in_default
 returns-in_default c = let s = c in
-    let r = c.match.rest in
-    let e = from-two-drive s.args.format s.args.code r.0.1 r.1 in
+    let e = from-two-drive s.args.format s.args.code (λ e. omega (arith, e)) (λ e. omega (arith, e)) in
     promised _ _ _ s.requires (milliamps-is _ _ 1 _ _ e (to_z-of_z s.ranges.code) c.milliamps4.ensures)

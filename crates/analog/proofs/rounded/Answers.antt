@@ -1,6 +1,5 @@
 -- `analog::rounded` meets its contract: the scale is below 2 ^ 16 and the upper number within 2 ^ 32, so their product fits, and the
 -- rounding division's own contract is the rest.
-use borrow.Author.Rules.{rules}
 use mathlib.Core.Path.{◌≡◌}
 use lib.Dec.{lit<}
 use lib.IntN.{pos}
@@ -33,4 +32,4 @@ returns c =
     let s = c in
     rw c.round_div.ensures
     (rw (to_z-of_z (overflow_mul-full_scale c.before.before), scale-is, upper_is)
-    (rw (back_at w64 l.result l.type-inv, l.ensures, to_z-of_z s.ranges.start, to_z-of_z s.ranges.end)))
+    (rw (back_at w64 l.result l.type_inv, l.ensures, to_z-of_z s.ranges.start, to_z-of_z s.ranges.end)))

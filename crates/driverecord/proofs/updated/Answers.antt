@@ -1,5 +1,4 @@
 -- `driverecord::updated` meets its contract: each kind of drive is a case of the definition, and the float that a drive has is what is asked to be no NaN.
-use borrow.Author.Rules.{rules}
 use Rattle.driverecord.specs.DriveRecord.{updated_of}
 use Rattle.driverecord.proofs.updated.Goals as goal
 
@@ -11,7 +10,7 @@ widened-requires-in-Milliamps c = let p = c.requires in (p.0, rw c.in-Milliamps.
 
 pub returns-in-Off : goal.returns-in-Off
 unfolding updated_of
-returns-in-Off c = rw (c.enum_told-1.given.1, c.left_alone.ensures)
+returns-in-Off c = rw (c.in-Off.is, c.left_alone.ensures)
 
 pub returns-in-Volts : goal.returns-in-Volts
 unfolding updated_of

@@ -1,5 +1,4 @@
 -- `driverecord::widened` meets its contract: an empty record takes the drive for both, any other compares it with both, and no float that it compares is a NaN.
-use borrow.Author.Rules.{rules}
 use borrow.Author.Tests.{eq-eqb, ne_eqb}
 use Rattle.driverecord.specs.DriveRecord.{widened_by}
 use Rattle.driverecord.proofs.widened.Goals as goal

@@ -1,5 +1,4 @@
 -- `roundloop::counted` meets its contract: 1 << width is 2 ^ width, the sum is far below 2 ^ 63, and a remainder by r is from 0 to r.
-use borrow.Author.Rules.{rules}
 use mathlib.Core.Path.{◌≡◌, ◌∙◌}
 use Prim.Native.Nat.{◌*◌, ◌%◌, ◌^◌, ◌≤◌}
 use native.Mathlib.Nat.{one-mul}
@@ -49,7 +48,7 @@ overflow_cast-result c =
     let s-is : let a = c.args in c.step-s.result ≡ step_from (2 ^ a.width) a.last a.p =
     rw (m-is) at c.step-s.ensures in
     let rest-is : let s = c in c.floor_rem-n.result ≡ floor_mod (sum) (pos s.args.r) =
-    let s = c in
+    let s = c.before in
     let a = s.args in
     rw (
       to_z-of_z (overflow_add-count s),
@@ -72,7 +71,7 @@ returns c =
     let s-is : let a = c.args in c.step-s.result ≡ step_from (2 ^ a.width) a.last a.p =
     rw (m-is) at c.step-s.ensures in
     let rest-is : let s = c in c.floor_rem-n.result ≡ floor_mod (sum) (pos s.args.r) =
-    let s = c in
+    let s = c.before in
     let a = s.args in
     rw (
       to_z-of_z (overflow_add-count s),

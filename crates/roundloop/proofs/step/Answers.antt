@@ -1,9 +1,8 @@
 -- `roundloop::step` meets its contract: the change of a position, half of m and the remainder by m are far below 2 ^ 63.
-use borrow.Author.Rules.{rules}
 use mathlib.Core.Path.{◌≡◌}
 use Prim.Native.Nat.{◌/◌}
 use native.Mathlib.Omega.{arith}
-use lib.IntN.{ℤ, pos, ◌+ℤ◌, ◌-ℤ◌}
+use lib.IntN.{pos, ◌+ℤ◌, ◌-ℤ◌}
 use mir.Syntax.{w64}
 use mir.Facts.{to_z-of_z, to_z_pos}
 use Rattle.integers.specs.IntLaws.{ints, sub_is, back_at}
@@ -23,7 +22,7 @@ overflow_add-change c = let a = c.args in
 pub overflow_sub-result : goal.overflow_sub-result
 overflow_sub-result c =
     let rest-is : let a = c.args in c.floor_rem.result ≡ floor_mod (pos a.p -ℤ pos a.last +ℤ pos (a.m / 2)) (pos a.m) =
-    let s = c in
+    let s = c.before in
     let a = s.args in
     rw (
       to_z-of_z (overflow_add-change s),
@@ -41,7 +40,7 @@ pub returns : goal.returns
 unfolding step_from
 returns c =
     let rest-is : let a = c.args in c.floor_rem.result ≡ floor_mod (pos a.p -ℤ pos a.last +ℤ pos (a.m / 2)) (pos a.m) =
-    let s = c in
+    let s = c.before in
     let a = s.args in
     rw (
       to_z-of_z (overflow_add-change s),
