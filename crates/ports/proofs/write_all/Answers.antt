@@ -1,8 +1,9 @@
-use Rattle.std.proofs.Common.{rules, ◌≡◌, ◌≤◌, true, length, take, ℕ, ◌+◌, ◌-◌, ◌*◌, ◌<◌, ◌/◌, ◌%◌, Bool, false, nat_eq, nat_lt, List, [], ◌∷◌, ◌++◌, slice_index_or, slice_set, bit_and, bit_or, Fits, w8, w32, w64, Bor, MutBor}
-use Rattle.std.specs.Io.KnownBytes.{Appends, Consumes}
-use Rattle.ports.specs.Moved.{WritesFront}
+-- What was written before and what is written now are the front of the bytes.
+use Rattle.std.proofs.Common.{rules, subst}
+use Rattle.std.specs.Io.KnownBytes.{Appends}
+use Rattle.ports.proofs.Known.{Appends-trans, front_of_rest}
 use Rattle.ports.proofs.write_all.Goals as goal
 
--- src/lib.rt:62:5
 pub loop-done-preserved : goal.loop-done-preserved
-loop-done-preserved g c = ?
+loop-done-preserved g c =
+    (search rules, subst (Appends _ _) (front_of_rest c.loop-done.done c.write_some-n.result c.args.bytes.now) (Appends-trans _ _ _ _ _ c.loop-done.invariant.1 c.write_some-n.ensures.bytes))
