@@ -1,7 +1,8 @@
 // Numbers as text.
-ghost use Rattle.std.specs.Prelude.{◌≡◌, ◌≤◌, true};
+ghost use Rattle.std.specs.Prelude.{◌≡◌, true};
 ghost use Rattle.std.specs.Fmt.{decimal};
 ghost use Rattle.std.specs.Io.KnownBytes.{Appends};
+ghost use Rattle.ports.specs.Hex.{hex_8};
 
 use std::io::Write;
 
@@ -12,7 +13,9 @@ pub fn print_decimal<W: Write>(output: &mut W, n: u64) -> bool
     write!(output, "{n}").is_ok()
 }
 
-// Writes a number in hex, with zeros in front up to eight digits; says whether it went out.
-pub fn print_hex_8<W: Write>(output: &mut W, n: u64) -> bool {
+// Writes a number in hex, in lower case, with zeros in front up to eight digits; says whether it went out.
+pub fn print_hex_8<W: Write>(output: &mut W, n: u64) -> bool
+    ensures { result ≡ true → Appends (W.contents output.old) (W.contents output.new) (hex_8 n) }
+{
     write!(output, "{n:08x}").is_ok()
 }
