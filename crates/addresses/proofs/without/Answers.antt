@@ -1,0 +1,12 @@
+-- `addresses::without` meets its contract: the bit is cleared in its word.
+use Prim.Native.Nat.{◌%◌}
+use native.Mathlib.Nat.{mod-lt}
+use lib.Dec.{lit<}
+use borrow.Author.Rules.{rules}
+use Rattle.addresses.specs.Addresses.{excluding}
+use Rattle.addresses.specs.AddressLaws.{one_bit}
+use Rattle.addresses.proofs.without.Goals as goal
+
+pub returns : goal.returns
+unfolding excluding
+returns c = rw (one_bit (c.args.a % 64) (mod-lt c.args.a (lit< tt)))

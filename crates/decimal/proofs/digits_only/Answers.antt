@@ -1,0 +1,42 @@
+-- `decimal::digits_only` meets its contract. The invariant: the bytes from i on are all digits exactly where all bytes are. The measure is what is left.
+use Prim.Native.Nat.{◌-◌, ◌≤◌}
+use mathlib.Core.Path.{◌≡◌, refl, sym, ◌∙◌}
+use mathlib.Core.Logic.{⊎_elim}
+use native.Mathlib.Omega.{arith}
+use lib.ListN.{length, get_or, drop}
+use borrow.Author.Tests.{le-leb, lt-leb, ltb-true, ltb-false}
+use Rattle.decimal.specs.ByteSteps.{all_digits}
+use Rattle.decimal.proofs.Steps.{all_drop, all_end}
+use Rattle.decimal.proofs.digits_only.Goals as goal
+
+pub loop-i-init : goal.loop-i-init
+loop-i-init c = (omega arith, refl)
+
+pub bounds-s-i : goal.bounds-s-i
+bounds-s-i c = omega arith
+
+pub returns-then-b-lt48 : goal.returns-then-b-lt48
+returns-then-b-lt48 c = let s = c.args.s.now in
+    let l = c.loop-i in
+    let b = get_or s l.i 0 in
+    sym
+    (all_drop s l.i c.loop-i-test.true
+    ∙ ⊎_elim (λ w. rw (lt-leb 48 b (omega (arith, w.true)))) (λ w. rw (le-leb 48 b (omega (arith, w.0.false)), lt-leb b 57 (ltb-true 57 b w.1.true))) c.then-b-lt48.branch)
+    ∙ l.invariant.1
+
+pub overflow_add-i : goal.overflow_add-i
+overflow_add-i c = omega arith
+
+pub loop-i-smaller : goal.loop-i-smaller
+loop-i-smaller c = omega arith
+
+pub loop-i-preserved : goal.loop-i-preserved
+loop-i-preserved c = let s = c.args.s.now in
+    let l = c.loop-i in
+    let b = get_or s l.i 0 in
+    let d = rw (le-leb 48 b (omega arith), le-leb b 57 (ltb-false 57 b c.if-b-gt57.false-raw)) at (all_drop s l.i c.loop-i-test.true) in
+    (omega arith, sym d ∙ l.invariant.1)
+
+pub returns : goal.returns
+returns c = let l = c.loop-i in
+    sym (all_end c.args.s.now l.i c.loop-i-test.false) ∙ l.invariant.1

@@ -1,0 +1,6 @@
+-- `events::give` meets its contract: no half is waiting after an event.
+use borrow.Author.Rules.{rules}
+use Rattle.events.proofs.give.Goals as goal
+
+pub returns : goal.returns
+returns c = rw c.fresh.ensures

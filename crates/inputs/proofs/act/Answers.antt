@@ -1,0 +1,50 @@
+-- `inputs::act` meets its contract. The invariant: the first i inputs have acted on what the call was given, where they act, and left their marks. The measure is what is left of the three.
+use Prim.Native.Nat.{◌≤◌, ◌-◌}
+use mathlib.Core.Path.{◌≡◌, refl, ◌∙◌}
+use mathlib.Core.Logic.{⊎_elim}
+use native.Mathlib.Omega.{arith}
+use native.Mathlib.Numerals.{add-one}
+use Rattle.inputs.specs.Commands.{acted, left_by}
+use Rattle.inputs.specs.Levels.{edge_at, input_of, marks_at}
+use Rattle.inputs.specs.CommandLaws.{inputs_of, all-inputs, marks_up_to, all-marks, good-inputs, good-commands}
+use Rattle.state.specs.State.{state_of}
+use Rattle.inputs.proofs.act.Goals as goal
+
+pub loop-i-init : goal.loop-i-init
+unfolding inputs_of marks_up_to
+loop-i-init c = (omega arith, (refl, refl))
+
+pub edge-requires : goal.edge-requires
+edge-requires c = omega arith
+
+pub input-x-requires : goal.input-x-requires
+input-x-requires c = let turn = c in
+    let l = turn.loop-i in
+    let s = turn in
+    let g = rw (← l.invariant.1.0) at (good-inputs s.args.levels l.i (acted (state_of s.args.t.now s.args.l) 0) s.requires) in
+    (g.table, omega arith)
+
+pub overflow_add-i : goal.overflow_add-i
+overflow_add-i c = omega arith
+
+pub loop-i-smaller : goal.loop-i-smaller
+loop-i-smaller c = omega arith
+
+pub loop-i-preserved : goal.loop-i-preserved
+unfolding inputs_of input_of edge_at marks_up_to marks_at
+loop-i-preserved c = let l = c.loop-i in
+    let e = c.edge.ensures in (
+      omega arith,
+      ⊎_elim
+          (λ w. (rw (add-one, ← l.invariant.1.0, ← e, w.0.true, w.3, w.4) w.2.ensures.0, rw (add-one, ← l.invariant.1.0, ← e, w.0.true, w.4, ← l.invariant.1.1) w.2.ensures.1))
+          (λ w. (rw (add-one, ← l.invariant.1.0, ← e, w.0.false, w.1, w.2), rw (add-one, ← l.invariant.1.0, ← e, w.0.false, w.2, ← l.invariant.1.1)))
+          c.if-edge.branch,
+    )
+
+pub returns : goal.returns
+returns c = let l = c.loop-i in
+    let s = c in
+    let all : l.i ≡ 3 = omega arith in
+    let f = state_of s.args.t.now s.args.l in
+    let e = (rw all at l.invariant.1.0) ∙ all-inputs f s.args.levels in
+    (e, ((rw all at l.invariant.1.1) ∙ all-marks f s.args.levels, rw (← e) at (good-commands f s.args.levels s.requires)))

@@ -1,0 +1,17 @@
+-- `inputs::act` meets its contract. The invariant: the first i inputs have acted on what the call was given, where they act, and left their marks. The measure is what is left of the three.
+use Prim.Native.Nat.{◌≤◌, ◌-◌}
+use mathlib.Core.Path.{◌≡◌, refl, ◌∙◌}
+use mathlib.Core.Logic.{⊎_elim}
+use native.Mathlib.Omega.{arith}
+use native.Mathlib.Numerals.{add-one}
+use Rattle.inputs.specs.Commands.{acted, left_by}
+use Rattle.inputs.specs.Levels.{edge_at, input_of, marks_at}
+use Rattle.inputs.specs.CommandLaws.{inputs_of, all-inputs, marks_up_to, all-marks, good-inputs, good-commands}
+use Rattle.state.specs.State.{state_of}
+use Rattle.inputs.proofs.act.Given as goal
+
+abbrev pub invariant-loop-i : goal.invariant-loop-i
+invariant-loop-i l = (l.i ≤ 3) × ((left_by l.t l.x ≡ inputs_of l.levels l.i (left_by l.initial.t l.initial.x)) × (l.x.halves ≡ marks_up_to l.levels l.i (left_by l.initial.t l.initial.x)))
+
+abbrev pub decreases-loop-i : goal.decreases-loop-i
+decreases-loop-i l = 3 - l.i

@@ -1,0 +1,6 @@
+-- `inputs::clear_locks` meets its contract.
+use borrow.Author.Rules.{rules}
+use Rattle.inputs.proofs.clear_locks.Goals as goal
+
+pub returns : goal.returns
+returns c = rw (c.with_switches.ensures, c.unlock_all.ensures)

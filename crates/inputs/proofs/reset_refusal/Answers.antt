@@ -1,0 +1,17 @@
+-- `inputs::reset_refusal` meets its contract: its tests are the definition's, in their order.
+use borrow.Author.Rules.{rules}
+use borrow.Author.Tests.{lt-ltb, le-ltb}
+use Rattle.inputs.specs.Commands.{reset_refusal}
+use Rattle.inputs.proofs.reset_refusal.Goals as goal
+
+pub returns-then-seen-error : goal.returns-then-seen-error
+unfolding reset_refusal
+returns-then-seen-error c = rw c.if-seen-error.true
+
+pub returns-then-start : goal.returns-then-start
+unfolding reset_refusal
+returns-then-start c = rw (c.if-seen-error.false, lt-ltb _ _ c.if-start.true)
+
+pub returns : goal.returns
+unfolding reset_refusal
+returns c = rw (c.if-seen-error.false, le-ltb _ _ c.if-start.false)

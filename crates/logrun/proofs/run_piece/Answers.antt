@@ -1,0 +1,38 @@
+-- `logrun::run_piece` meets its contract: the lines are those of `feed`, and where the run ends the last line is put behind them, for which there is room.
+use mathlib.Core.Path.{◌≡◌, sym}
+use mathlib.Core.Bool.{true, false}
+use native.Mathlib.Omega.{arith}
+use Prim.Native.Nat.{◌*◌}
+use lib.ListN.{length}
+use Rattle.lines.specs.LineLaws.{longest}
+use Rattle.text.specs.PutLaws.{put-room, put_both}
+use Rattle.logrun.specs.Pieces.{goes_on}
+use Rattle.logrun.specs.PieceLaws.{piece-goes, piece-ends, lines-at-most}
+use borrow.Author.Rules.{rules}
+use Rattle.logrun.proofs.run_piece.Goals as goal
+
+pub returns-then-next-full : goal.returns-then-next-full
+unfolding goes_on
+returns-then-next-full c = let start = c in
+    let f = c.feed-f.ensures in
+    let p = start.args.p in
+    let bytes = start.args.bytes.now in
+    let e : goes_on start.args.full p bytes ≡ true = rw (← f.0) c.if-next-full.true in
+    (f.0, (sym e, (rw (piece-goes start.args.full p bytes e) f.1.0, f.1.1)))
+
+pub finish-last-requires : goal.finish-last-requires
+finish-last-requires c = let start = c in
+    let put = c.feed-f.ensures.text.0 in
+    let bytes = start.args.bytes.now in
+    put-room put (32 * length bytes) longest (lines-at-most start.args.p bytes) (omega (arith, start.requires.1))
+
+pub returns : goal.returns
+unfolding goes_on
+returns c = let start = c in
+    let f = c.feed-f.ensures in
+    let p = start.args.p in
+    let bytes = start.args.bytes.now in
+    let e : goes_on start.args.full p bytes ≡ false = rw (← f.0) c.if-next-full.false in
+    let last = rw f.0 at c.finish-last.ensures.text in
+    let put = put_both f.1.0 last (omega (arith, lines-at-most p bytes, start.requires.1)) in
+    (f.0, (sym e, (rw (piece-ends start.args.full p bytes e) put, (f.1.1.0, c.finish-last.ensures.within))))

@@ -1,0 +1,39 @@
+-- `panel::advance` meets its contract: switching and display follow where the event has them, and a step keeps the state valid.
+use borrow.Author.Rules.{rules}
+use mathlib.Core.Bool.{true}
+use mathlib.Core.List.{List}
+use mathlib.Core.Path.{◌≡◌, sym, subst, ap, ◌∙◌}
+use lib.IntN.{ℤ}
+use Rattle.events.specs.declared.Event.{Event}
+use Rattle.state.specs.declared.Live.{Live}
+use Rattle.state.specs.declared.State.{State}
+use Rattle.state.specs.State.{state_of}
+use Rattle.state.specs.Valid.{Good}
+use Rattle.panel.specs.declared.Answer.{Answer}
+use Rattle.panel.specs.declared.Begun.{Begun}
+use Rattle.panel.specs.Step.{answer_of, settled_of, step_of}
+use Rattle.panel.specs.StepWay.{answer_after}
+use Rattle.panel.specs.ValidLaws.{good-step}
+use Rattle.panel.proofs.advance.Goals as goal
+
+-- an answer that is the step's leaves a valid state
+pub promised : (s : State) (e : Event) (r : Answer) → Good s → r ≡ step_of s e → (r ≡ step_of s e) × Good r.state
+promised s e r g is = (is, subst (λ (a : Answer). Good a.state) (sym is) (good-step g e))
+
+-- an event with which switching and display follow
+pub ended : (t : List ℤ) (b : Begun) (l : Live) (a : Answer) → b.settles ≡ true → state_of t l ≡ settled_of (state_of t b.live) → answer_after t b ≡ a →
+    answer_of (state_of t l) b.note b.halves ≡ a
+ended t b l a on s e = ap (λ (x : State). answer_of x b.note b.halves) s ∙ (rw on at e)
+
+pub returns-then-b : goal.returns-then-b
+unfolding answer_of
+returns-then-b c = let test = c in
+    let b = test in
+    let a = b in
+    promised _ a.args.e _ a.requires (ended _ b.begin-b.result c.settle-last.result _ test.if-b.true c.settle-last.ensures b.begin-b.ensures)
+
+pub returns : goal.returns
+unfolding answer_of
+returns c = let b = c in
+    let a = b in
+    promised _ a.args.e _ a.requires (rw c.if-b.false at b.begin-b.ensures)

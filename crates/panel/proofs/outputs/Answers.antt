@@ -1,0 +1,6 @@
+-- `panel::outputs` meets its contract.
+use borrow.Author.Rules.{rules}
+use Rattle.panel.proofs.outputs.Goals as goal
+
+pub returns : goal.returns
+returns c = rw (c.outputs.ensures, c.preselections.ensures)

@@ -1,0 +1,6 @@
+-- The filler is the default table.
+use borrow.Author.Rules.{rules}
+use Rattle.parameters.proofs.refused.Goals as goal
+
+pub returns : goal.returns
+returns c = rw c.defaults-table.ensures

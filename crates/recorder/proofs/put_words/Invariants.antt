@@ -1,0 +1,17 @@
+-- `recorder::put_words` meets its contract. The invariant: the bytes of the words before, and behind them what was there.
+use mathlib.Core.Path.{◌≡◌, refl, ap, ap₂, ◌∙◌}
+use mathlib.Core.List.{List, ◌++◌, append-nil}
+use Prim.Native.Nat.{ℕ, ◌-◌, ◌*◌, ◌≤◌}
+use native.Mathlib.Omega.{arith}
+use lib.ListN.{length, take, drop, drop_of_length-le, length-set}
+use lib.Seq.{take-length}
+use Rattle.events.specs.Bytes.{bytes_of}
+use Rattle.recorder.specs.LoopLaws.{put-more}
+use borrow.Author.Rules.{rules}
+use Rattle.recorder.proofs.put_words.Given as goal
+
+abbrev pub invariant-loop-k : goal.invariant-loop-k
+invariant-loop-k l = (l.k ≤ length l.words) × (length l.bytes ≡ length l.initial.bytes) × (l.bytes ≡ bytes_of (take l.k l.words) ++ drop (4 * l.k) l.initial.bytes)
+
+abbrev pub decreases-loop-k : goal.decreases-loop-k
+decreases-loop-k l = length l.words - l.k

@@ -1,0 +1,30 @@
+-- `runs::run` meets its contract: a refused table answers its refusal, and a loaded one its run, of which demand 3 is proved.
+use borrow.Author.Rules.{rules}
+use mathlib.Core.Path.{◌≡◌, sym, ap, ◌∙◌}
+use Rattle.panel.specs.declared.Loaded.{Loaded}
+use Rattle.panel.specs.Load.{loaded_of}
+use Rattle.panel.specs.Step.{answer_of}
+use Rattle.runs.specs.Words.{events_in}
+use Rattle.runs.specs.RanLaws.{refused-run, refused-promise, loaded-last, loaded-run, loaded-promise}
+use Rattle.runs.proofs.run.Goals as goal
+
+pub returns-then-l-ne0 : goal.returns-then-l-ne0
+returns-then-l-ne0 c = let l = c.load-l in
+    let a = c.answered-first in
+    let s = c.args in
+    let n : (loaded_of s.table.now).refusal ≡ 0 → ⊥ = λ z. c.if-l-ne0.true (ap (λ (x : Loaded). x.refusal) l.ensures.0 ∙ z) in
+    rw (a.ensures, l.ensures.0) (refused-run s.table.now (events_in s.log.now) n, refused-promise s.table.now (events_in s.log.now) _ n)
+
+pub run_on-last-requires : goal.run_on-last-requires
+unfolding answer_of
+run_on-last-requires c = rw c.answered-first.ensures c.load-l.ensures.valid
+
+pub returns : goal.returns
+unfolding answer_of
+returns c = let b = c in
+    let l = b.load-l in
+    let s = b.args in
+    let z : (loaded_of s.table.now).refusal ≡ 0 = ap (λ (x : Loaded). x.refusal) (sym l.ensures.0) ∙ c.if-l-ne0.false in
+    let e = rw (b.answered-first.ensures, l.ensures.0) at c.run_on-last.ensures.is in
+    let last = e ∙ loaded-last s.table.now (events_in s.log.now) z in
+    (loaded-run s.table.now (events_in s.log.now) _ z last, loaded-promise s.table.now (events_in s.log.now) _ last)

@@ -1,0 +1,24 @@
+-- `sheet::cut` meets its contract: the number behind the word, or none.
+use mathlib.Core.Path.{◌≡◌}
+use Rattle.text.specs.PutLaws.{put-none}
+use Rattle.text.specs.WordLaws.{others-of}
+use Rattle.sheet.specs.Sheet.{number_behind, after_cut, cut_text}
+use borrow.Author.Rules.{rules}
+use Rattle.sheet.proofs.cut.Goals as goal
+
+pub returns-in-Count : goal.returns-in-Count
+unfolding after_cut cut_text
+returns-in-Count c = let known = c in
+    let n = known in
+    let s = n in
+    let e : n.natural-n.result ≡ number_behind s.args.line.now = rw (n.natural-n.ensures, n.only.ensures, n.rest.ensures, others-of s.args.line.now) in
+    (rw (← e, known.in-Count.is) c.with_given.ensures, rw (← e, known.in-Count.is) (put-none _ 0))
+
+pub returns-in-Missing : goal.returns-in-Missing
+unfolding after_cut cut_text
+returns-in-Missing c = let w = c in
+    let known = w in
+    let n = known in
+    let s = n in
+    let e : n.natural-n.result ≡ number_behind s.args.line.now = rw (n.natural-n.ensures, n.only.ensures, n.rest.ensures, others-of s.args.line.now) in
+    (rw (← e, known.enum_told.given.1), rw (← e, known.enum_told.given.1) w.wrong.ensures)

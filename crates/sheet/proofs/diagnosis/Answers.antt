@@ -1,0 +1,10 @@
+-- `sheet::diagnosis` meets its contract: the answer stands behind its word.
+use native.Mathlib.Omega.{arith}
+use Rattle.text.specs.PutLaws.{put_both}
+use Rattle.sheet.specs.Sheet.{diagnose_text}
+use borrow.Author.Rules.{rules}
+use Rattle.sheet.proofs.diagnosis.Goals as goal
+
+pub returns : goal.returns
+unfolding diagnose_text
+returns c = rw (← c.diagnose-d.ensures) (put_both c.put_bytes-p1.ensures c.put_numbers.ensures (omega arith))

@@ -1,0 +1,24 @@
+-- `sheet::orders::asking` meets its contract: the tests in turn.
+use Rattle.sheet.specs.Orders.{question_named}
+use borrow.Author.Rules.{rules}
+use Rattle.sheet.proofs.orders.asking.Goals as goal
+
+pub returns-then-same : goal.returns-then-same
+unfolding question_named
+returns-then-same c = rw (← c.same.ensures, c.if-same.true)
+
+pub returns-then-same-2 : goal.returns-then-same-2
+unfolding question_named
+returns-then-same-2 c = rw (← c.same.ensures, c.if-same.false, ← c.same-2.ensures, c.if-same-2.true)
+
+pub returns-then-same-3 : goal.returns-then-same-3
+unfolding question_named
+returns-then-same-3 c = rw (← c.same.ensures, c.if-same.false, ← c.same-2.ensures, c.if-same-2.false, ← c.same-3.ensures, c.if-same-3.true)
+
+pub returns-then-same-4 : goal.returns-then-same-4
+unfolding question_named
+returns-then-same-4 c = rw (← c.same.ensures, c.if-same.false, ← c.same-2.ensures, c.if-same-2.false, ← c.same-3.ensures, c.if-same-3.false, ← c.same-4.ensures, c.if-same-4.true)
+
+pub returns : goal.returns
+unfolding question_named
+returns c = rw (← c.same.ensures, c.if-same.false, ← c.same-2.ensures, c.if-same-2.false, ← c.same-3.ensures, c.if-same-3.false, ← c.same-4.ensures, c.if-same-4.false)

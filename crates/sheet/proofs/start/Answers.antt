@@ -1,0 +1,13 @@
+-- `sheet::start` meets its contract: the table's bytes are all of the buffer, and what is opened runs.
+use mathlib.Core.Path.{◌∙◌}
+use Rattle.sheet.specs.LogWordLaws.{table-whole}
+use Rattle.sheet.specs.Sheet.{after_start, start_text}
+use borrow.Author.Rules.{rules}
+use Rattle.sheet.proofs.start.Goals as goal
+
+pub returns : goal.returns
+unfolding after_start start_text
+returns c = let o = c.opened-o.ensures in
+    let t = c in
+    let whole = table-whole c.args.s.table (put_table-requires t t.put_table.lifetimes).1 (search rules) t.put_table.ensures in
+    (c.with_run-sheet.ensures ∙ rw (o.0, o.1.0, whole), rw whole at o.1.1)

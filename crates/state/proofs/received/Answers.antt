@@ -1,0 +1,6 @@
+-- `state::received` meets its contract: the basis of the telegram, its reading, and least and greatest with it.
+use borrow.Author.Rules.{rules}
+use Rattle.state.proofs.received.Goals as goal
+
+pub returns : goal.returns
+returns c = rw c.widened-x.ensures

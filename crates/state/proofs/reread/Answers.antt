@@ -1,0 +1,6 @@
+-- `state::reread` meets its contract: the reading anew, and the extremes with it.
+use borrow.Author.Rules.{rules}
+use Rattle.state.proofs.reread.Goals as goal
+
+pub returns : goal.returns
+returns c = rw (c.with_reading.ensures, c.widened-x.ensures)

@@ -1,0 +1,12 @@
+-- `storage::run` is safe and ends: a piece fits its output. The measure is the turns left.
+use mathlib.Core.Path.{◌≡◌, sym}
+use lib.ListN.{length}
+use lib.Seq.{length-take-le}
+use borrow.Author.Rules.{rules}
+use Rattle.storage.proofs.run.Goals as goal
+
+pub loop-turns-init : goal.loop-turns-init
+loop-turns-init c = (search rules, search rules)
+
+pub loop-turns-preserved : goal.loop-turns-preserved
+loop-turns-preserved c = (search rules, search rules)

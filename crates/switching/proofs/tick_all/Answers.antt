@@ -1,0 +1,16 @@
+-- `switching::tick_all` meets its contract: the four, one by one.
+use borrow.Author.Rules.{rules}
+use mathlib.Core.Path.{◌≡◌}
+use lib.ListN.{length}
+use Rattle.switching.specs.EachLaws.{each-four}
+use Rattle.switching.specs.Switching.{fresh_switch}
+use Rattle.switching.proofs.tick_all.Goals as goal
+
+pub returns : goal.returns
+returns c =
+    let four : length c.args.t2 ≡ 4 =
+    search rules in
+    let third = c in
+    let second = third in
+    let first = second in
+    each-four _ first.args.t2 fresh_switch (four) first.ticked.ensures second.ticked-2.ensures third.ticked-3.ensures c.ticked-4.ensures

@@ -1,0 +1,11 @@
+-- `terminal::run` is safe and ends. The invariant: the dialog is valid. The measure is the number of pieces left.
+use native.Mathlib.Omega.{arith}
+use borrow.Author.Rules.{rules}
+use Rattle.dialog.specs.Dialog.{Ready}
+use Rattle.terminal.proofs.run.Goals as goal
+
+pub overflow_sub-pieces : goal.overflow_sub-pieces
+overflow_sub-pieces c = omega arith
+
+pub loop-pieces-smaller : goal.loop-pieces-smaller
+loop-pieces-smaller c = omega arith

@@ -1,0 +1,9 @@
+-- `terminal::take` meets its contract: a line that has ended is answered.
+use borrow.Author.Rules.{rules}
+use Rattle.terminal.proofs.take.Goals as goal
+
+pub returns-then-x : goal.returns-then-x
+returns-then-x c = (rw (c.if-x.true, c.answer.ensures.is), c.answer.ensures.ready)
+
+pub returns : goal.returns
+returns c = (rw c.if-x.false, c.requires.0)

@@ -1,0 +1,58 @@
+-- `terminal::take_all` meets its contract: the bytes that are left lead from here to where all lead from the start, and each leaves the dialog valid and the buffer whole. The measure is what is left of the bytes.
+use mathlib.Core.Path.{◌≡◌, refl, sym, ap, ◌∙◌}
+use Prim.Native.Nat.{◌+◌, ◌≤◌, ◌-◌}
+use native.Mathlib.Omega.{arith}
+use lib.ListN.{length, drop}
+use Rattle.dialog.specs.declared.Console.{Console}
+use Rattle.dialog.specs.Dialog.{Ready, after_line}
+use Rattle.script.specs.Collector.{most, collected}
+use Rattle.script.specs.declared.collector.Collector.{Collector}
+use Rattle.script.specs.Talk.{talked_all}
+use Rattle.script.specs.TalkLaws.{talked-by, talked-more, talked-end}
+use borrow.Author.Rules.{rules}
+use Rattle.terminal.proofs.take_all.Goals as goal
+
+pub loop-i-init : goal.loop-i-init
+loop-i-init c = let s = c in
+    let n : length s.args.t.collector.bytes ≡ most = search rules in
+    (s.requires, omega arith, n, refl)
+
+pub bounds-bytes-i : goal.bounds-bytes-i
+bounds-bytes-i c = omega arith
+
+pub push-x-requires : goal.push-x-requires
+push-x-requires c = omega (arith, c.loop-i.invariant.2)
+
+pub take-c-requires : goal.take-c-requires
+take-c-requires c =
+    let whole : length c.push-x.new.0 ≡ most =
+    omega (arith, c.push-x.auto.0, c.loop-i.invariant.2) in
+    (c.loop-i.invariant.0, omega (arith, whole))
+
+pub overflow_add-i : goal.overflow_add-i
+overflow_add-i c = let turn = c in
+    let s = turn in
+    omega (arith, turn.loop-i-test.true, s.well_formed.1.0.0)
+
+pub loop-i-smaller : goal.loop-i-smaller
+loop-i-smaller c = omega (arith, c.loop-i-test.true)
+
+pub loop-i-preserved : goal.loop-i-preserved
+loop-i-preserved c =
+    let whole : length c.push-x.new.0 ≡ most =
+    omega (arith, c.push-x.auto.0, c.loop-i.invariant.2) in
+    let push = c in
+    let turn = push in
+    let l = turn.loop-i in
+    let bytes = turn.args.bytes.now in
+    let one = talked-by after_line l.c c.take-c.result (collected l.held l.x) (collected push.push-x.new.0 push.push-x.result) _ push.push-x.ensures c.take-c.ensures.is in (
+      c.take-c.ensures.ready,
+      omega (arith, turn.loop-i-test.true),
+      whole,
+      l.invariant.3 ∙ talked-more after_line (l.c, collected l.held l.x) bytes l.i turn.loop-i-test.true ∙ ap (λ (t : Console × Collector). talked_all after_line t (drop (l.i + 1) bytes)) (sym one),
+    )
+
+pub returns : goal.returns
+returns c = let at = c in
+    let all = rw at.extent_of-x.ensures at at.loop-i.invariant.3 in
+    (rw c.kept.ensures (sym (all ∙ talked-end after_line _ _ _ c.loop-i-test.false)), at.loop-i.invariant.0)
