@@ -1,5 +1,3 @@
 -- The modules of this crate's definitions and laws, in the order in which to read them.
 pub mod Search
 pub mod Addresses
-pub mod SearchLaws
-pub mod AddressLaws

@@ -10,7 +10,7 @@ use mir.Val.{SFits, to_z, of_z}
 use mir.Facts.{to_z-of_z}
 use Rattle.integers.specs.IntLaws.{abs_is, excl}
 use Rattle.analog.specs.AnalogCode.{CodeFits}
-use Rattle.analog.specs.CodeLaws.{fits-small}
+use Rattle.analog.proofs.CodeLaws.{fits-small}
 
 in-float : (z : ℤ) → nat_abs z ≤ 2 ^ 24 → T (in_float binary32 z)
 unfolding in_float

@@ -2,8 +2,5 @@
 pub mod FloatValue
 pub mod AnalogCode
 pub mod Drives
-pub mod Cases
-pub mod CodeLaws
-pub mod DriveLaws
 pub mod ExactLaws
 pub mod FloatLaws

@@ -4,5 +4,3 @@ pub mod Numbers
 pub mod Least
 pub mod Codes
 pub mod LeastLaws
-pub mod CodeLaws
-pub mod NumberLaws

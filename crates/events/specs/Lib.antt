@@ -3,10 +3,3 @@ pub mod Words
 pub mod Log
 pub mod Bytes
 pub mod Written
-pub mod Cases
-pub mod WordLaws
-pub mod LogLaws
-pub mod WrittenLaws
-pub mod CarriedLaws
-pub mod ByteLaws
-pub mod WordBytesLaws

@@ -7,9 +7,9 @@ use Rattle.std.specs.Int.Signed.{le_z, lt_z, non_neg}
 use Rattle.integers.specs.ChoiceLaws.{by-test}
 use Rattle.integers.specs.Fraction.{Frac, whole, minus}
 use Rattle.integers.specs.Int.{P, N}
-use Rattle.integers.specs.OrderLaws.{NotAbove, not-above-self, by_whole, turned-over}
+use Rattle.integers.proofs.OrderLaws.{NotAbove, not-above-self, by_whole, turned-over}
 use Rattle.integers.specs.RingLaws.{var, lit, ◌⊕◌, ◌⊖◌, ◌⊗◌, le, le_in, le-ex, lt-ex, nlt-ex, abs-ex, mul_mono, non_neg-N, negative-P}
-use Rattle.measurement.specs.CurveLaws.{before-not-above, not-before-above}
+use Rattle.measurement.proofs.CurveLaws.{before-not-above, not-before-above}
 use Rattle.measurement.specs.Curve.{Point, before, line, right_of, four_quadrants, one_quadrant, curve, rising, origin, Ordered}
 
 -- ---- one line: y + A D / m with A the way from x, D the rise, m the run

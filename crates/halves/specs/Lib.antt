@@ -2,4 +2,3 @@
 pub mod Upward
 pub mod Halves
 pub mod Cases
-pub mod HalvesLaws

@@ -2,4 +2,3 @@
 pub mod Commands
 pub mod Levels
 pub mod Freeze
-pub mod CommandLaws

@@ -10,11 +10,4 @@ pub mod ChoiceLaws
 pub mod TestLaws
 pub mod IntLaws
 pub mod RingLaws
-pub mod RoundLaws
-pub mod HalfLaws
-pub mod OrderLaws
-pub mod FloorLaws
-pub mod ModLaws
 pub mod Upward
-pub mod UpwardLaws
-pub mod TwosComplementLaws

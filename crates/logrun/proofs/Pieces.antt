@@ -8,7 +8,7 @@ use lib.IntN.{ℤ}
 use lib.ListN.{length, take, drop, set, take-append-drop, length-take}
 use lib.Seq.{length-take-le, drop-drop, take-suc-set, get_or-take, take_all}
 use Rattle.events.specs.Bytes.{words_in}
-use Rattle.events.specs.ByteLaws.{word_from, words-next, words-done}
+use Rattle.events.proofs.ByteLaws.{word_from, words-next, words-done}
 use Rattle.text.specs.Put.{Put}
 use Rattle.text.specs.PutLaws.{put_front, put-behind}
 use Rattle.logrun.specs.declared.Progress.{Progress}

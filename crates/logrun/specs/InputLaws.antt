@@ -4,7 +4,7 @@ use Rattle.std.proofs.Common.{sym, ◌∙◌, arith, take_all}
 use Rattle.std.proofs.lemmas.List.{length-map}
 use Rattle.integers.specs.TwosComplement.{signed_of}
 use Rattle.events.specs.Bytes.{words_in}
-use Rattle.parameters.specs.LoadLaws.{load-length}
+use Rattle.parameters.proofs.LoadLaws.{load-length}
 use Rattle.parameters.specs.Rows.{default_table}
 use Rattle.panel.specs.declared.Loaded.{Loaded}
 use Rattle.panel.specs.Load.{loaded_of}

@@ -5,5 +5,3 @@ pub mod Pieces
 pub mod Output
 pub mod InputLaws
 pub mod ProgressLaws
-pub mod PieceLaws
-pub mod OutputLaws

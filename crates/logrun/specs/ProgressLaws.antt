@@ -7,13 +7,13 @@ use Rattle.events.specs.declared.AfterWord.{AfterWord}
 use Rattle.events.specs.declared.Taken.{Taken}
 use Rattle.events.specs.declared.Taken.TheVariants.{Happened, Nothing, Refused}
 use Rattle.events.specs.Bytes.{words_in}
-use Rattle.events.specs.ByteLaws.{word_from, words-next, words-done}
+use Rattle.events.proofs.ByteLaws.{word_from, words-next, words-done}
 use Rattle.events.specs.Log.{taken_of}
 use Rattle.lines.specs.Lines.{next_count}
 use Rattle.lines.specs.CountLaws.{next_count-range}
 use Rattle.lines.specs.LineLaws.{longest, event-line-at-most}
 use Rattle.panel.specs.Step.{step_of}
-use Rattle.panel.specs.ValidLaws.{good-step}
+use Rattle.panel.proofs.ValidLaws.{good-step}
 use Rattle.logrun.specs.declared.Progress.{Progress}
 use Rattle.logrun.specs.Progress.{after_taken, text_taken, word_fed, word_text, words_fed, words_text, Ready}
 

@@ -2,9 +2,3 @@
 pub mod Curve
 pub mod Measure
 pub mod Sound
-pub mod Cases
-pub mod AccuracyLaws
-pub mod CurveLaws
-pub mod SearchLaws
-pub mod MeasureLaws
-pub mod MarkLaws

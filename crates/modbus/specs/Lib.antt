@@ -3,10 +3,4 @@ pub mod Crc
 pub mod Words
 pub mod Request
 pub mod Replies
-pub mod Cases
 pub mod XorLaws
-pub mod CrcLaws
-pub mod WordLaws
-pub mod WholeLaws
-pub mod RequestLaws
-pub mod RoundTripLaws

@@ -2,6 +2,4 @@
 pub mod Step
 pub mod Load
 pub mod Telegrams
-pub mod Cases
-pub mod ValidLaws
 pub mod StepWay

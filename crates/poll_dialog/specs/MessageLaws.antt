@@ -4,7 +4,7 @@ use Rattle.std.proofs.Math.ListN.{get_or-eq_default}
 use Rattle.decimal.specs.Decimal.{same_text}
 use Rattle.script.specs.Collector.{no_newline}
 use Rattle.script.specs.Messages.{longest_message, is_message}
-use Rattle.script.specs.MessageLaws.{all_messages, each, message-short}
+use Rattle.script.proofs.MessageLaws.{all_messages, each, message-short}
 use Rattle.poll_dialog.specs.Messages.{bad_pick_text, messages, message_of}
 
 -- EVERY MESSAGE IS ONE

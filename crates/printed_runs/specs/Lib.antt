@@ -1,3 +1,2 @@
 -- The modules of this crate's definitions and laws, in the order in which to read them.
 pub mod Printed
-pub mod PrintedLaws

@@ -3,7 +3,7 @@ use Rattle.std.specs.Prelude.{◌≡◌, refl, true, false, List, ℕ, ◌<◌, 
 use Rattle.std.proofs.Common.{sym, arith, eq-eqb, ne_eqb}
 use Rattle.integers.specs.ChoiceLaws.{by-test, is_true, is_false}
 use Rattle.parameters.specs.Slots.{round_loop}
-use Rattle.roundloop.specs.CountLaws.{first_below, counted-below}
+use Rattle.roundloop.proofs.CountLaws.{first_below, counted-below}
 use Rattle.settings.specs.Settings.{layout_of}
 use Rattle.ssi.specs.Telegram.{error_reported, modulus}
 use Rattle.reading.specs.declared.Basis.{Basis}

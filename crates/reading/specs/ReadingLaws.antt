@@ -4,7 +4,7 @@
 use Rattle.std.specs.Prelude.{◌≡◌, refl, Bool, true, false, cond, List, ℕ, eqb, ℤ, pos, neg_ℤ}
 use Rattle.std.proofs.Common.{arith}
 use Rattle.std.specs.Int.Signed.{lt_z}
-use Rattle.analog.specs.CodeLaws.{code_fits}
+use Rattle.analog.proofs.CodeLaws.{code_fits}
 use Rattle.analog.specs.Drives.{CodeDrive}
 use Rattle.integers.specs.Limit.{Z}
 use Rattle.integers.specs.ChoiceLaws.{by-test}
@@ -14,7 +14,7 @@ use Rattle.integers.specs.RingLaws.{var, neg, lit, nlt-ex}
 use Rattle.integers.specs.Fraction.{Accurate}
 use Rattle.measurement.specs.declared.Error.TheVariants as Error
 use Rattle.measurement.specs.declared.Measured.{Measured}
-use Rattle.measurement.specs.AccuracyLaws.{reading-accurate}
+use Rattle.measurement.proofs.AccuracyLaws.{reading-accurate}
 use Rattle.measurement.specs.Measure.{error_number, measured, judged_of, value_of, measured_of}
 use Rattle.parameters.specs.Valid.{Valid}
 use Rattle.settings.specs.Settings.{scaling_of, points_of, span_of}

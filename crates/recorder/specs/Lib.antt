@@ -2,4 +2,3 @@
 pub mod Recorded
 pub mod Promise
 pub mod LoopLaws
-pub mod RecordedLaws

@@ -4,8 +4,8 @@ use Rattle.std.proofs.Common.{sym, ap, ap₂, ◌∙◌, add-one, arith, length-
 use Rattle.std.proofs.lemmas.List.Edits.{sets, sets-eq}
 use Rattle.std.proofs.Math.Seq.{append_snoc}
 use Rattle.events.specs.Bytes.{words_in, least_first, bytes_of}
-use Rattle.events.specs.ByteLaws.{word_from, words-next}
-use Rattle.events.specs.WordBytesLaws.{bytes-length, bytes-more}
+use Rattle.events.proofs.ByteLaws.{word_from, words-next}
+use Rattle.events.proofs.WordBytesLaws.{bytes-length, bytes-more}
 
 -- ---- words read: those that are stored and those that are left
 pub words_more : (bytes words : List ℕ) (k : ℕ) → 4 * k + 4 ≤ length bytes → k < length words → words_in bytes ≡ take k words ++ words_in (drop (4 * k) bytes)

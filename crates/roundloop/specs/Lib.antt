@@ -1,4 +1,2 @@
 -- The modules of this crate's definitions and laws, in the order in which to read them.
 pub mod Count
-pub mod Cases
-pub mod CountLaws

@@ -1,5 +1,3 @@
 -- The modules of this crate's definitions and laws, in the order in which to read them.
 pub mod ServiceScreen
-pub mod EventLaws
-pub mod ScreenLaws
 pub mod Cases

@@ -4,6 +4,3 @@ pub mod Demand3
 pub mod SingleSteps
 pub mod WrittenOut
 pub mod Cases
-pub mod SingleStepsLaws
-pub mod Demand3Laws
-pub mod WrittenOutLaws

@@ -6,7 +6,7 @@ use Rattle.std.proofs.Common.{◌∙◌, arith, length-drop}
 use Rattle.std.proofs.Math.Seq.{ext_get_or, get_or-drop}
 use Rattle.parameters.specs.Slots as slot
 use Rattle.parameters.specs.Alike.{Alike, misses, MissesFrom}
-use Rattle.parameters.specs.StoreLaws.{missed}
+use Rattle.parameters.proofs.StoreLaws.{missed}
 use Rattle.settings.specs.Settings.{layout_of, scaling_of, points_of, span_of, preselection_of, preselections_of, input_at}
 
 module _ {touched : ℕ → Bool} {s t : List ℤ} (a : Alike touched s t) where

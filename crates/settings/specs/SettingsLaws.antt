@@ -13,10 +13,10 @@ use Rattle.measurement.specs.Curve.{point_at, points_from, rising, origin, Order
 use Rattle.measurement.specs.Measure.{used_points}
 use Rattle.measurement.specs.Sound.{Linearizable, Usable}
 use Rattle.measurement.specs.Sound as measurement
-use Rattle.measurement.specs.SearchLaws.{rising-list}
+use Rattle.measurement.proofs.SearchLaws.{rising-list}
 use Rattle.parameters.specs.Rows.{row_at, row_of}
 use Rattle.parameters.specs.Slots as slot
-use Rattle.parameters.specs.RangeLaws as ranges
+use Rattle.parameters.proofs.RangeLaws as ranges
 use Rattle.parameters.specs.Valid.{Valid}
 use Rattle.ssi.specs.Sound.{Sound}
 use Rattle.settings.specs.Settings.{layout_of, scaling_of, points_of, preselection_of, preselections_of}

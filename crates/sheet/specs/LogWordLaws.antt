@@ -5,10 +5,10 @@ use Rattle.std.proofs.lemmas.List.{map-append, length-map}
 use Rattle.std.proofs.Math.ListN.{length, take}
 use Rattle.std.proofs.Math.Seq.{length-take-le}
 use Rattle.text.specs.HexList.{all_hex_words, are_hex, hexes_of}
-use Rattle.text.specs.HexListLaws.{hexes-length}
+use Rattle.text.proofs.HexListLaws.{hexes-length}
 use Rattle.decimal.specs.DigitLaws.{both_true}
 use Rattle.events.specs.Bytes.{least_first, bytes_of}
-use Rattle.events.specs.WordBytesLaws.{bytes-length, bytes-more}
+use Rattle.events.proofs.WordBytesLaws.{bytes-length, bytes-more}
 use Rattle.integers.specs.TwosComplement.{bits_of}
 use Rattle.text.specs.Hex.{is_hex, hex_of}
 use Rattle.text.specs.Put.{Put}

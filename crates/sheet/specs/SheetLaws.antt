@@ -5,7 +5,7 @@ use mir.Val.{bool_byte}
 use Rattle.text.specs.HexList.{hexes_of}
 use Rattle.state.specs.declared.Extremes.{Extremes as LeastAndGreatest}
 use Rattle.state.specs.declared.Outcome.{Outcome}
-use Rattle.state.specs.ValidLaws.{good-fresh}
+use Rattle.state.proofs.ValidLaws.{good-fresh}
 use Rattle.state.specs.State.{state_of}
 use Rattle.decimal.specs.DecimalLaws.{text-at-most-19}
 use Rattle.events.specs.declared.Event.{Event}
@@ -19,7 +19,7 @@ use Rattle.lines.specs.LineLaws.{header-line-at-most, load-line-at-most, end-lin
 use Rattle.logrun.specs.declared.Progress.{Progress}
 use Rattle.logrun.specs.Input.{table_of}
 use Rattle.logrun.specs.Output.{opening_text}
-use Rattle.logrun.specs.PieceLaws.{lines-at-most}
+use Rattle.logrun.proofs.PieceLaws.{lines-at-most}
 use Rattle.logrun.specs.Pieces.{goes_on, last_line, piece_text}
 use Rattle.logrun.specs.Progress.{Ready, after_taken, text_taken}
 use Rattle.logrun.specs.ProgressLaws.{taken-ready, taken-at-most, words-ready}
@@ -28,13 +28,13 @@ use Rattle.panel.specs.declared.Loaded.{Loaded}
 use Rattle.panel.specs.Load.{loaded_of}
 use Rattle.panel.specs.Telegrams.{diagnosed_of, built_by}
 use Rattle.panel.specs.Step.{answer_of, answer_by, step_of}
-use Rattle.parameters.specs.ValidLaws.{load-valid}
+use Rattle.parameters.proofs.ValidLaws.{load-valid}
 use Rattle.script.specs.declared.Command.{Command}
 use Rattle.script.specs.declared.Command.TheVariants.{Blank, Wrong, Node, Slot, Start, Halves, Record, Telegram, Burst, Levels, Tick, Frame}
 use Rattle.script.specs.declared.Numeral.{Numeral}
 use Rattle.script.specs.declared.Numeral.TheVariants.{Count, Missing}
 use Rattle.script.specs.Commands.{longest, command_of, frame_of}
-use Rattle.script.specs.FrameLaws.{frame-fits}
+use Rattle.script.proofs.FrameLaws.{frame-fits}
 use Rattle.settings.specs.Settings.{layout_of}
 use Rattle.ssi.specs.Telegram.{content_of}
 use Rattle.text.specs.Put.{Put}

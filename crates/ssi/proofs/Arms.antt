@@ -12,9 +12,9 @@ use Rattle.ssi.specs.Sound.{Sound, error_bit}
 use Rattle.ssi.specs.Telegram.{level_of, worth, without_bit, decoded, modulus}
 use Rattle.ssi.specs.Builder.{coded, level_asked, telegram_of}
 use Rattle.ssi.specs.FieldLaws.{clear-is}
-use Rattle.ssi.specs.PartLaws.{without-cleared, coded-lt, mark-is}
-use Rattle.ssi.specs.SoundLaws.{field_fits}
-use Rattle.ssi.specs.BuildLaws.{asked-lt, field_apart}
+use Rattle.ssi.proofs.PartLaws.{without-cleared, coded-lt, mark-is}
+use Rattle.ssi.proofs.SoundLaws.{field_fits}
+use Rattle.ssi.proofs.BuildLaws.{asked-lt, field_apart}
 
 less : (k : ℕ) → suc k - 1 ≡ k
 less k = omega arith

@@ -2,10 +2,4 @@
 pub mod Sound
 pub mod Telegram
 pub mod Builder
-pub mod ReadBackLaws
-pub mod BuildLaws
-pub mod SoundLaws
-pub mod PartLaws
-pub mod GrayLaws
-pub mod DoublingLaws
 pub mod FieldLaws

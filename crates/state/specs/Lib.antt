@@ -2,4 +2,3 @@
 pub mod Extremes
 pub mod State
 pub mod Valid
-pub mod ValidLaws

@@ -5,8 +5,4 @@ pub mod Outputs
 pub mod Travel
 pub mod Each
 pub mod EachLaws
-pub mod ConditionLaws
-pub mod TravelLaws
-pub mod SwitchingLaws
-pub mod OutputLaws
 pub mod MarkSteps

@@ -14,7 +14,7 @@ use Rattle.text.specs.Marks.{space}
 use Rattle.text.specs.Words.{trimmed_of}
 use Rattle.text.specs.WordSteps.{unspaced_of, word_length}
 use Rattle.text.specs.Hex.{hex_digit, all_hex, hex_from}
-use Rattle.text.specs.HexLaws.{digit-most}
+use Rattle.text.proofs.HexLaws.{digit-most}
 
 -- ---- spaces in front
 pub unspaced-next : (s : List ℕ) → 0 < length s → get_or s 0 0 ≡ space → unspaced_of (drop 1 s) ≡ unspaced_of s

@@ -8,7 +8,4 @@ pub mod WordLaws
 pub mod Plain
 pub mod PlainLaws
 pub mod Hex
-pub mod HexLaws
-pub mod HexBackLaws
 pub mod HexList
-pub mod HexListLaws

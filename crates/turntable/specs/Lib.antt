@@ -1,8 +1,4 @@
 -- The modules of this crate's definitions and laws, in the order in which to read them.
 pub mod OldRule
 pub mod Turntable
-pub mod LoopLaws
-pub mod TravelledLaws
-pub mod TiedLaws
-pub mod AgreeLaws
 pub mod Cases

@@ -2,8 +2,4 @@
 pub mod Steps
 pub mod Promise
 pub mod Rules
-pub mod Cases
-pub mod StepLaws
 pub mod OrderLaws
-pub mod PromiseLaws
-pub mod RuleLaws

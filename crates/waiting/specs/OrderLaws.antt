@@ -6,10 +6,10 @@ use Rattle.std.proofs.lemmas.Bool.{eqb-false}
 use Rattle.integers.specs.ChoiceLaws.{either, is_true, is_false}
 use Rattle.integers.specs.TestLaws.{clash}
 use Rattle.addresses.specs.Search.{lowest_above}
-use Rattle.addresses.specs.SearchLaws.{lowest-none, Lowest, lowest-is}
+use Rattle.addresses.proofs.SearchLaws.{lowest-none, Lowest, lowest-is}
 use Rattle.dispatcher.specs.declared.Group.{Group}
 use Rattle.dispatcher.specs.Dispatch.{member, next_of}
-use Rattle.dispatcher.specs.TurnLaws.{next-higher, next-lowest}
+use Rattle.dispatcher.proofs.TurnLaws.{next-higher, next-lowest}
 
 -- ---- the order, as a number: how far x is behind k
 

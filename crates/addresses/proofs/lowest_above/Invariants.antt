@@ -6,7 +6,7 @@ use native.Mathlib.Omega.{arith}
 use lib.Count.{count_trailing_zeros}
 use Rattle.addresses.specs.Addresses.{holds}
 use Rattle.addresses.specs.Search.{lowest_from, lowest_above}
-use Rattle.addresses.specs.AddressLaws.{rest-none, rest_some}
+use Rattle.addresses.proofs.AddressLaws.{rest-none, rest_some}
 use borrow.Author.Rules.{rules}
 use Rattle.addresses.proofs.lowest_above.Given as goal
 

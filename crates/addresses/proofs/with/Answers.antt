@@ -4,7 +4,7 @@ use native.Mathlib.Nat.{mod-lt}
 use lib.Dec.{lit<}
 use borrow.Author.Rules.{rules}
 use Rattle.addresses.specs.Addresses.{including}
-use Rattle.addresses.specs.AddressLaws.{one_bit}
+use Rattle.addresses.proofs.AddressLaws.{one_bit}
 use Rattle.addresses.proofs.with.Goals as goal
 
 pub returns : goal.returns

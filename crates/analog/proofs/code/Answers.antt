@@ -8,7 +8,7 @@ use Rattle.integers.specs.IntLaws.{bk, back_at, fits-within}
 use Rattle.integers.specs.Fraction.{rounded}
 use Rattle.integers.specs.Round.{rounding}
 use Rattle.analog.specs.AnalogCode.{fraction, on_scale, code_of, code_half, coded_of}
-use Rattle.analog.specs.CodeLaws.{code_fits, fits-small}
+use Rattle.analog.proofs.CodeLaws.{code_fits, fits-small}
 use Rattle.analog.proofs.code.Goals as goal
 
 pub overflow_cast-code : goal.overflow_cast-code

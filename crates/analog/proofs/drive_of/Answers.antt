@@ -10,7 +10,7 @@ use Rattle.analog.specs.declared.Drive.TheVariants.{Volts, Milliamps}
 use Rattle.integers.specs.Fraction.{Same}
 use Rattle.analog.specs.AnalogCode.{CodeFits}
 use Rattle.analog.specs.Drives.{float_of, drive_of, drive_value, analog_value, Unrounded}
-use Rattle.analog.specs.DriveLaws.{unrounded, drive-worth, from-two-fits, from-two-drive}
+use Rattle.analog.proofs.DriveLaws.{unrounded, drive-worth, from-two-fits, from-two-drive}
 use Rattle.analog.proofs.drive_of.Goals as goal
 
 -- the float promise, once the drive is known

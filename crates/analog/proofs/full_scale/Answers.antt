@@ -1,5 +1,5 @@
 -- `analog::full_scale` meets its contract: each arm's number is the definition's for that format.
-use Rattle.analog.specs.CodeLaws.{above-zero-scale}
+use Rattle.analog.proofs.CodeLaws.{above-zero-scale}
 use Rattle.analog.proofs.full_scale.Goals as goal
 
 pub returns-in-0 : goal.returns-in-0

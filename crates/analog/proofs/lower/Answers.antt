@@ -2,7 +2,7 @@
 use native.Mathlib.Omega.{arith}
 use mir.Facts.{to_z-of_z}
 use Rattle.integers.specs.IntLaws.{ints, fit}
-use Rattle.analog.specs.CodeLaws.{lower-mirrored, lower-kept}
+use Rattle.analog.proofs.CodeLaws.{lower-mirrored, lower-kept}
 use Rattle.analog.proofs.lower.Goals as goal
 
 pub overflow_cast-result : goal.overflow_cast-result

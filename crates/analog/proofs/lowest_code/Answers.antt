@@ -1,5 +1,5 @@
 -- `analog::lowest_code` meets its contract: each arm's number is the definition's for that format.
-use Rattle.analog.specs.CodeLaws.{above-zero-lowest}
+use Rattle.analog.proofs.CodeLaws.{above-zero-lowest}
 use Rattle.analog.proofs.lowest_code.Goals as goal
 
 pub returns-in-0 : goal.returns-in-0

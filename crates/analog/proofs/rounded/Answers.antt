@@ -8,7 +8,7 @@ use mir.Syntax.{w64}
 use mir.Facts.{to_z-of_z}
 use Rattle.integers.specs.IntLaws.{bk, back_at, size, mul-fits}
 use Rattle.analog.specs.AnalogCode.{upper_of, full_scale}
-use Rattle.analog.specs.CodeLaws.{scale_small, upper-within}
+use Rattle.analog.proofs.CodeLaws.{scale_small, upper-within}
 use Rattle.analog.proofs.rounded.Goals as goal
 
 pub overflow_mul-full_scale : goal.overflow_mul-full_scale

@@ -6,7 +6,7 @@ use mathlib.Core.List.{List, ◌++◌}
 use borrow.Author.Rules.{rules}
 use lib.ListN.{length, take, drop, get_or, set}
 use lib.Seq.{take-length}
-use Rattle.bitplanes.specs.LoopLaws.{copy-next}
+use Rattle.bitplanes.proofs.LoopLaws.{copy-next}
 use Rattle.bitplanes.proofs.copy.Given as goal
 
 abbrev pub invariant-loop-i : goal.invariant-loop-i

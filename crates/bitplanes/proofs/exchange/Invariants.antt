@@ -4,7 +4,7 @@ use Prim.Native.Nat.{ℕ, ◌-◌, ◌≤◌}
 use native.Mathlib.Omega.{arith}
 use borrow.Author.Rules.{rules}
 use lib.ListN.{length}
-use Rattle.bitplanes.specs.LoopLaws.{Part, part_none, part-more, part-all}
+use Rattle.bitplanes.proofs.LoopLaws.{Part, part_none, part-more, part-all}
 use Rattle.bitplanes.proofs.exchange.Given as goal
 
 abbrev pub invariant-loop-p : goal.invariant-loop-p

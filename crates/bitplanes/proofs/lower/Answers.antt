@@ -6,14 +6,14 @@ use native.Mathlib.Omega.{arith}
 use lib.Bits.{bit_xor}
 use borrow.Author.Rules.{rules}
 use Rattle.bitplanes.specs.RoundSteps.{lower_of}
-use Rattle.bitplanes.specs.MaskLaws.{sizes}
+use Rattle.bitplanes.proofs.MaskLaws.{sizes}
 use Rattle.bitplanes.proofs.lower.Goals as goal
 
 pub overflow_cast-result : goal.overflow_cast-result
-overflow_cast-result c = record { fits = omega (arith, (sizes c.args.w c.requires.0).small) }
+overflow_cast-result c = record { fits = omega (arith, (sizes c.args.w c.requires.width).small) }
 
 pub overflow_shl-result : goal.overflow_shl-result
-overflow_shl-result c = omega (arith, (sizes c.args.w c.requires.0).small)
+overflow_shl-result c = omega (arith, (sizes c.args.w c.requires.width).small)
 
 pub returns : goal.returns
 unfolding lower_of

@@ -7,8 +7,8 @@ use borrow.Author.Rules.{rules}
 use borrow.Author.Tests.{lt-ltb, le-ltb}
 use lib.ListN.{length, take, drop, take-append-drop}
 use Rattle.bitplanes.specs.Turned.{turned_group, in_groups, turned}
-use Rattle.bitplanes.specs.GroupLaws.{groups-append, group-next}
-use Rattle.bitplanes.specs.TurnedLaws.{group-keeps}
+use Rattle.bitplanes.proofs.GroupLaws.{groups-append, group-next}
+use Rattle.bitplanes.proofs.TurnedLaws.{group-keeps}
 use Rattle.bitplanes.proofs.turn.Goals as goal
 
 pub returns-then-output-n : goal.returns-then-output-n
@@ -16,7 +16,7 @@ returns-then-output-n c = let start = c in
     rw (lt-ltb (length start.args.output.now) (length start.args.input.now) (omega arith))
 
 pub loop-at-init : goal.loop-at-init
-loop-at-init c = (search rules, search rules, refl, ap (λ (k : ℕ). in_groups 32 turned_group (k / 32) c.copy.new.1.0) (omega arith))
+loop-at-init c = (search rules, search rules, refl, ap (λ (k : ℕ). in_groups 32 turned_group (k / 32) c.copy.new.d) (omega arith))
 
 pub loop-at-preserved : goal.loop-at-preserved
 loop-at-preserved c = let call = c in
@@ -28,7 +28,7 @@ loop-at-preserved c = let call = c in
       search rules,
       search rules,
       at.loop-at.invariant.3 ∙ ap (λ (x : ℕ). take at.loop-at.at at.loop-at.output ++ in_groups 32 turned_group x (drop at.loop-at.at at.loop-at.output)) k
-          ∙ group-next 32 turned_group group-keeps at.loop-at.output call.turn_group.new.0 at.loop-at.at ((n - (at.loop-at.at + 32)) / 32) (at.loop-at.at + 32 - at.loop-at.at)
+          ∙ group-next 32 turned_group group-keeps at.loop-at.output call.turn_group.new.g at.loop-at.at ((n - (at.loop-at.at + 32)) / 32) (at.loop-at.at + 32 - at.loop-at.at)
           (omega arith) (omega arith) call.turn_group.ensures,
     )
 

@@ -7,8 +7,8 @@ use borrow.Author.Rules.{rules}
 use borrow.Author.Tests.{lt-ltb, le-ltb}
 use lib.ListN.{length, take, drop, take-append-drop}
 use Rattle.bitplanes.specs.Turned.{turned_group, in_groups, turned}
-use Rattle.bitplanes.specs.GroupLaws.{groups-append, group-next}
-use Rattle.bitplanes.specs.TurnedLaws.{group-keeps}
+use Rattle.bitplanes.proofs.GroupLaws.{groups-append, group-next}
+use Rattle.bitplanes.proofs.TurnedLaws.{group-keeps}
 use Rattle.bitplanes.proofs.turn.Given as goal
 
 abbrev pub invariant-loop-at : goal.invariant-loop-at

@@ -4,7 +4,7 @@ use mathlib.Core.Bool.{true, false}
 use Prim.Native.Nat.{◌+◌, ◌-◌, ◌≤◌}
 use native.Mathlib.Nat.{add-zero}
 use native.Mathlib.Omega.{arith}
-use Rattle.addresses.specs.SearchLaws.{count_above, count-step, count-end}
+use Rattle.addresses.proofs.SearchLaws.{count_above, count-step, count-end}
 use Rattle.dispatcher.specs.Dispatch.{present, panels}
 use Rattle.dispatcher.proofs.count.Goals as goal
 

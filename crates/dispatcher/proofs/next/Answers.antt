@@ -1,7 +1,7 @@
 -- `dispatcher::next` meets its contract: an empty group has none, else by the definition's own test.
 use mathlib.Core.Path.{sym, ◌∙◌}
 use borrow.Author.Rules.{rules}
-use Rattle.dispatcher.specs.TurnLaws.{next-higher, next-lowest, next-empty}
+use Rattle.dispatcher.proofs.TurnLaws.{next-higher, next-lowest, next-empty}
 use Rattle.dispatcher.proofs.next.Goals as goal
 
 pub returns-then-is_empty : goal.returns-then-is_empty

@@ -3,7 +3,7 @@ use mathlib.Core.Path.{◌≡◌, refl, sym, ◌∙◌, ap}
 use mathlib.Core.Bool.{false, not}
 use borrow.Author.Rules.{rules}
 use Rattle.dispatcher.specs.Dispatch.{group_of, some, next_of, after_error, polled_of}
-use Rattle.dispatcher.specs.TurnLaws.{next-none, next-some, pick_first, pick_second, pick-none}
+use Rattle.dispatcher.proofs.TurnLaws.{next-none, next-some, pick_first, pick_second, pick-none}
 use Rattle.dispatcher.proofs.pick.Goals as goal
 
 pub returns-then-a-ne0 : goal.returns-then-a-ne0

@@ -5,7 +5,7 @@ use native.Mathlib.Omega.{arith}
 use borrow.Author.Rules.{rules}
 use Rattle.dispatcher.specs.declared.Dispatcher.{Dispatcher}
 use Rattle.dispatcher.specs.Dispatch.{outside, present, answer}
-use Rattle.dispatcher.specs.CallLaws.{in-range, register-outside, register-present, register-full, register-joined}
+use Rattle.dispatcher.proofs.CallLaws.{in-range, register-outside, register-present, register-full, register-joined}
 use Rattle.dispatcher.proofs.register.Goals as goal
 
 pub returns-then-is_outside : goal.returns-then-is_outside

@@ -5,7 +5,7 @@ use native.Mathlib.Omega.{arith}
 use borrow.Author.Rules.{rules}
 use lib.ListN.{length, drop, drop_of_length-le}
 use Rattle.framing.specs.Collector.{fed_to}
-use Rattle.framing.specs.PieceLaws.{fed-next}
+use Rattle.framing.proofs.PieceLaws.{fed-next}
 use Rattle.framing.proofs.feed.Given as goal
 
 abbrev pub invariant-loop-i : goal.invariant-loop-i

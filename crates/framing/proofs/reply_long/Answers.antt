@@ -2,7 +2,7 @@
 use native.Mathlib.Omega.{arith}
 use borrow.Author.Tests.{eq-eqb, ne_eqb, lt-ltb, le-ltb, le-leb, lt-leb}
 use Rattle.framing.specs.Ends.{is_reply_long}
-use Rattle.framing.specs.EndLaws.{short-no-reply}
+use Rattle.framing.proofs.EndLaws.{short-no-reply}
 use borrow.Author.Rules.{rules}
 use mathlib.Core.Path.{sym}
 use Rattle.framing.proofs.reply_long.Goals as goal

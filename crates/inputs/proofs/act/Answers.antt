@@ -6,7 +6,7 @@ use native.Mathlib.Omega.{arith}
 use native.Mathlib.Numerals.{add-one}
 use Rattle.inputs.specs.Commands.{acted, left_by}
 use Rattle.inputs.specs.Levels.{edge_at, input_of, marks_at}
-use Rattle.inputs.specs.CommandLaws.{inputs_of, all-inputs, marks_up_to, all-marks, good-inputs, good-commands}
+use Rattle.inputs.proofs.CommandLaws.{inputs_of, all-inputs, marks_up_to, all-marks, good-inputs, good-commands}
 use Rattle.state.specs.State.{state_of}
 use Rattle.inputs.proofs.act.Goals as goal
 
@@ -47,4 +47,8 @@ returns c = let l = c.loop-i in
     let all : l.i ≡ 3 = omega arith in
     let f = state_of s.args.t.now s.args.l in
     let e = (rw all at l.invariant.1.0) ∙ all-inputs f s.args.levels in
-    (e, ((rw all at l.invariant.1.1) ∙ all-marks f s.args.levels, rw (← e) at (good-commands f s.args.levels s.requires)))
+    record {
+      is = e;
+      marks = (rw all at l.invariant.1.1) ∙ all-marks f s.args.levels;
+      valid = rw (← e) at (good-commands f s.args.levels s.requires);
+    }

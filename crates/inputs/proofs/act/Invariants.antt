@@ -6,7 +6,7 @@ use native.Mathlib.Omega.{arith}
 use native.Mathlib.Numerals.{add-one}
 use Rattle.inputs.specs.Commands.{acted, left_by}
 use Rattle.inputs.specs.Levels.{edge_at, input_of, marks_at}
-use Rattle.inputs.specs.CommandLaws.{inputs_of, all-inputs, marks_up_to, all-marks, good-inputs, good-commands}
+use Rattle.inputs.proofs.CommandLaws.{inputs_of, all-inputs, marks_up_to, all-marks, good-inputs, good-commands}
 use Rattle.state.specs.State.{state_of}
 use Rattle.inputs.proofs.act.Given as goal
 

@@ -1,6 +1,6 @@
 -- `inputs::input` meets its contract: the command of its action, on what is left so far, and its marks.
 use borrow.Author.Rules.{rules}
-use Rattle.inputs.specs.CommandLaws.{input-aimed}
+use Rattle.inputs.proofs.CommandLaws.{input-aimed}
 use Rattle.inputs.proofs.input.Goals as goal
 
 pub command-y-requires : goal.command-y-requires
@@ -12,4 +12,7 @@ pub returns : goal.returns
 returns c = let b = c in
     let a = b.action_at-a.ensures in
     let is = rw a at b.command-y.ensures.is in
-    (rw (c.first_note-note.ensures, ← is), rw a at b.command-y.ensures.marks)
+    record {
+      is = rw (c.first_note-note.ensures, ← is);
+      marks = rw a at b.command-y.ensures.marks;
+    }

@@ -6,7 +6,7 @@ use lib.IntN.{pos}
 use mir.Syntax.{w32}
 use mir.Val.{to_z}
 use mir.Facts.{to_z_pos}
-use Rattle.parameters.specs.StoreLaws.{valid-offset}
+use Rattle.parameters.proofs.StoreLaws.{valid-offset}
 use Rattle.reading.specs.Reading.{marked_of}
 use Rattle.state.specs.State.{reread_of}
 use Rattle.inputs.specs.Commands.{reset_of}
@@ -28,4 +28,7 @@ returns c =
     let m = c in
     let b = m in
     let o = b.store_offset.ensures in
-    (rw (c.reread-live.ensures, m.read-m.ensures, o, start_is), rw (m.read-m.ensures, o, start_is))
+    record {
+      is = rw (c.reread-live.ensures, m.read-m.ensures, o, start_is);
+      marks = rw (m.read-m.ensures, o, start_is);
+    }

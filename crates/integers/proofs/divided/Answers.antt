@@ -10,7 +10,7 @@ use mir.Val.{SFits}
 use mir.Facts.{to_z-of_z}
 use Rattle.integers.specs.Int.{P, N}
 use Rattle.integers.specs.IntLaws.{ints, fit, div-ok, rem-fits, division}
-use Rattle.integers.specs.FloorLaws.{rem-keep, rem-turn, rem-none}
+use Rattle.integers.proofs.FloorLaws.{rem-keep, rem-turn, rem-none}
 use Rattle.integers.proofs.divided.Goals as goal
 
 pub returns-then-r-le0 : goal.returns-then-r-le0

@@ -8,7 +8,7 @@ use lib.Signed.{le_z, lt_z}
 use mir.Syntax.{w64}
 use mir.Facts.{to_z-of_z}
 use Rattle.integers.specs.IntLaws.{ints, back_at}
-use Rattle.integers.specs.FloorLaws.{floor-small}
+use Rattle.integers.proofs.FloorLaws.{floor-small}
 use Rattle.integers.proofs.floor_rem.Goals as goal
 
 pub returns-then-d-r : goal.returns-then-d-r

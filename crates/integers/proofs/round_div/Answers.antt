@@ -14,8 +14,8 @@ use mir.Facts.{to_z-of_z}
 use Rattle.integers.specs.Int.{P, N}
 use Rattle.integers.specs.IntLaws.{ints, fit, again, bk, div-ok, rem-fits, quot_fits, same_bits, Division, division, sub_is, add_is}
 use Rattle.integers.specs.Round.{round_div, halved, rounding}
-use Rattle.integers.specs.RoundLaws.{quot-up, quot-keep, quot-down, not-above}
-use Rattle.integers.specs.HalfLaws.{half-rest, no-divisor}
+use Rattle.integers.proofs.RoundLaws.{quot-up, quot-keep, quot-down, not-above}
+use Rattle.integers.proofs.HalfLaws.{half-rest, no-divisor}
 use Rattle.integers.specs.declared.Rounded.{Rounded}
 use Rattle.integers.proofs.round_div.Goals as goal
 use Rattle.integers.proofs.round_div.Lts as lts

@@ -15,4 +15,7 @@ pub returns : goal.returns
 unfolding after_taken text_taken answer_of
 returns c = let s = c.advance-o.ensures.is in
     let n = c.next_count-count.ensures in
-    (rw (n, ← s), rw (n, s) at c.event_line-end.ensures)
+    record {
+      is = rw (n, ← s);
+      text = rw (n, s) at c.event_line-end.ensures;
+    }

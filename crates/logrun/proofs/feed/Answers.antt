@@ -9,4 +9,9 @@ words-r-requires c = let start = c in
 pub returns : goal.returns
 returns c = let w = c.words-r.ensures in
     let e = c.course_of.ensures in
-    (rw (c.progress_of.ensures, w.0, e), (rw e at w.1.0, (rw c.progress_of.ensures w.1.1.0, w.1.1.1)))
+    record {
+      is = rw (c.progress_of.ensures, w.0, e);
+      text = rw e at w.1.0;
+      ready = rw c.progress_of.ensures w.1.1.0;
+      within = w.1.1.1;
+    }

@@ -8,4 +8,7 @@ use Rattle.logrun.proofs.finish.Goals as goal
 pub returns : goal.returns
 returns c = let start = c in
     let put = rw c.number_at_end.ensures at c.end_line.ensures in
-    (put, put-within put longest (end-line-at-most _) (omega arith))
+    record {
+      text = put;
+      within = put-within put longest (end-line-at-most _) (omega arith);
+    }

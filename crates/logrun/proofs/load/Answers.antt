@@ -6,8 +6,14 @@ use borrow.Author.Rules.{rules}
 use Rattle.logrun.proofs.load.Goals as goal
 
 pub returns-then-bytes-lt-TABLE_BYTES : goal.returns-then-bytes-lt-TABLE_BYTES
-returns-then-bytes-lt-TABLE_BYTES c = let start = c in
-    (c.load.ensures.is ∙ not-104-words _ (λ e. omega (arith, e)) ∙ sym (short-input start.args.bytes.now c.if-bytes-lt-TABLE_BYTES.true), c.load.ensures.valid)
+returns-then-bytes-lt-TABLE_BYTES c =    let start = c in
+    record {
+      is = c.load.ensures.is ∙ not-104-words _ (λ e. omega (arith, e)) ∙ sym (short-input start.args.bytes.now c.if-bytes-lt-TABLE_BYTES.true);
+      valid = c.load.ensures.valid;
+    }
 
 pub returns : goal.returns
-returns c = (c.load-2.ensures.is ∙ rw c.table_of-t.ensures, c.load-2.ensures.valid)
+returns c =record {
+      is = c.load-2.ensures.is ∙ rw c.table_of-t.ensures;
+      valid = c.load-2.ensures.valid;
+    }

@@ -4,7 +4,7 @@ use native.Mathlib.Omega.{arith}
 use borrow.Author.Tests.{eq-eqb, ne_eqb}
 use Rattle.lines.specs.LineLaws.{longest, header-line-at-most, load-line-at-most}
 use Rattle.panel.specs.Load.{loaded_of}
-use Rattle.parameters.specs.LoadLaws.{slot_small}
+use Rattle.parameters.proofs.LoadLaws.{slot_small}
 use Rattle.text.specs.PutLaws.{put-within}
 use Rattle.logrun.specs.Input.{table_of}
 use Rattle.logrun.specs.Output.{opening_text}
@@ -17,7 +17,13 @@ returns-then-l-eq0 c = let begun = c.start-p.ensures in
     let l = c.load-l.ensures.is in
     let e = eq-eqb _ 0 (rw l at c.if-l-eq0.true) in
     let put = c.header_line-end.ensures in
-    (begun.0 ∙ rw l, (sym e, (rw e put, (begun.1, put-within put longest header-line-at-most (omega arith)))))
+    record {
+      is = begun.0 ∙ rw l;
+      loads = sym e;
+      text = rw e put;
+      ready = begun.1;
+      within = put-within put longest header-line-at-most (omega arith);
+    }
 
 pub load_line-end-requires : goal.load_line-end-requires
 unfolding loaded_of
@@ -30,4 +36,10 @@ returns c = let begun = c.start-p.ensures in
     let l = c.load-l.ensures.is in
     let e = ne_eqb _ 0 (rw l at c.if-l-eq0.false) in
     let put = rw l at c.Load-Line.ensures in
-    (begun.0 ∙ rw l, (sym e, (rw e put, (begun.1, put-within put longest (load-line-at-most _ _) (omega arith)))))
+    record {
+      is = begun.0 ∙ rw l;
+      loads = sym e;
+      text = rw e put;
+      ready = begun.1;
+      within = put-within put longest (load-line-at-most _ _) (omega arith);
+    }

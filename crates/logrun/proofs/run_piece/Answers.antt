@@ -7,7 +7,7 @@ use lib.ListN.{length}
 use Rattle.lines.specs.LineLaws.{longest}
 use Rattle.text.specs.PutLaws.{put-room, put_both}
 use Rattle.logrun.specs.Pieces.{goes_on}
-use Rattle.logrun.specs.PieceLaws.{piece-goes, piece-ends, lines-at-most}
+use Rattle.logrun.proofs.PieceLaws.{piece-goes, piece-ends, lines-at-most}
 use borrow.Author.Rules.{rules}
 use Rattle.logrun.proofs.run_piece.Goals as goal
 
@@ -35,4 +35,10 @@ returns c = let start = c in
     let e : goes_on start.args.full p bytes ≡ false = rw (← f.0) c.if-next-full.false in
     let last = rw f.0 at c.finish-last.ensures.text in
     let put = put_both f.1.0 last (omega (arith, lines-at-most p bytes, start.requires.1)) in
-    (f.0, (sym e, (rw (piece-ends start.args.full p bytes e) put, (f.1.1.0, c.finish-last.ensures.within))))
+    record {
+      is = f.0;
+      goes = sym e;
+      text = rw (piece-ends start.args.full p bytes e) put;
+      ready = f.1.1.0;
+      within = c.finish-last.ensures.within;
+    }

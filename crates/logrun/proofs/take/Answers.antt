@@ -10,7 +10,11 @@ pub returns-then-c-ne0 : goal.returns-then-c-ne0
 returns-then-c-ne0 c = let start = c in
     let p = progress_of start.args.t.now start.args.c in
     let e = ne_eqb p.refusal 0 c.if-c-ne0.true in
-    (rw (fed-ended p start.args.w e), (rw (text-ended p start.args.w e) (put-none start.args.out.now start.args.at), start.requires.0))
+    record {
+      is = rw (fed-ended p start.args.w e);
+      text = rw (text-ended p start.args.w e) (put-none start.args.out.now start.args.at);
+      ready = start.requires.0;
+    }
 
 pub returns-in-Happened : goal.returns-in-Happened
 returns-in-Happened c = let start = c in
@@ -21,7 +25,11 @@ returns-in-Happened c = let start = c in
     let f = fed_by p w s.result _ e s.ensures c.in-Happened.is in
     let g = text-by p w s.result _ e s.ensures c.in-Happened.is in
     let v = c.event.ensures in
-    (rw f v.0, (rw g v.1, rw (v.0, ← f) (word-ready start.requires.0 w)))
+    record {
+      is = rw f v.0;
+      text = rw g v.1;
+      ready = rw (v.0, ← f) (word-ready start.requires.0 w);
+    }
 
 pub returns-in-Nothing : goal.returns-in-Nothing
 unfolding after_taken text_taken
@@ -32,7 +40,11 @@ returns-in-Nothing c = let start = c in
     let e = eq-eqb p.refusal 0 c.if-c-ne0.false in
     let f = fed_by p w s.result _ e s.ensures c.enum_told-1.given.1 in
     let g = text-by p w s.result _ e s.ensures c.enum_told-1.given.1 in
-    (rw (f, c.quiet.ensures), (rw (g, c.quiet.ensures) (put-none start.args.out.now start.args.at), rw c.quiet.ensures (record { state = start.requires.0.state; count = start.requires.0.count })))
+    record {
+      is = rw (f, c.quiet.ensures);
+      text = rw (g, c.quiet.ensures) (put-none start.args.out.now start.args.at);
+      ready = rw c.quiet.ensures (record { state = start.requires.0.state; count = start.requires.0.count });
+    }
 
 pub returns-in-Refused : goal.returns-in-Refused
 unfolding after_taken text_taken
@@ -43,4 +55,8 @@ returns-in-Refused c = let start = c in
     let e = eq-eqb p.refusal 0 c.if-c-ne0.false in
     let f = fed_by p w s.result _ e s.ensures c.in-Refused.is in
     let g = text-by p w s.result _ e s.ensures c.in-Refused.is in
-    (rw (f, c.quiet-in-Refused.ensures), (rw (g, c.quiet-in-Refused.ensures) (put-none start.args.out.now start.args.at), rw c.quiet-in-Refused.ensures (record { state = start.requires.0.state; count = start.requires.0.count })))
+    record {
+      is = rw (f, c.quiet-in-Refused.ensures);
+      text = rw (g, c.quiet-in-Refused.ensures) (put-none start.args.out.now start.args.at);
+      ready = rw c.quiet-in-Refused.ensures (record { state = start.requires.0.state; count = start.requires.0.count });
+    }

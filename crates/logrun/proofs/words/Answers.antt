@@ -86,4 +86,9 @@ returns c = let l = c.loop-i in
     let bytes = args.bytes.now in
     let p = progress_of l.t l.course in
     let all : words_text (progress_of args.t.now args.c) (words_in bytes) ≡ take l.end l.out = rw (text-done p bytes l.i c.loop-i-test.false, append-nil) at l.invariant.5 in
-    (sym (l.invariant.4 ∙ fed-done p bytes l.i c.loop-i-test.false), (all-put args.out.now l.out _ l.end all l.invariant.6 (omega arith), (l.invariant.1, omega arith)))
+    record {
+      is = sym (l.invariant.4 ∙ fed-done p bytes l.i c.loop-i-test.false);
+      text = all-put args.out.now l.out _ l.end all l.invariant.6 (omega arith);
+      ready = l.invariant.1;
+      within = omega arith;
+    }

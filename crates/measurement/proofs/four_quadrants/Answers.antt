@@ -9,7 +9,7 @@ use mir.Val.{SFits}
 use mir.Facts.{to_z-of_z}
 use Rattle.integers.specs.IntLaws.{ints, back_at}
 use Rattle.integers.specs.Fraction.{rounded}
-use Rattle.measurement.specs.SearchLaws.{value_none}
+use Rattle.measurement.proofs.SearchLaws.{value_none}
 use Rattle.measurement.proofs.four_quadrants.Goals as goal
 
 pub highest-requires : goal.highest-requires

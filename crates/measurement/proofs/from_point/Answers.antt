@@ -10,7 +10,7 @@ use mir.Val.{SFits}
 use mir.Facts.{to_z-of_z}
 use Rattle.integers.specs.IntLaws.{ints, back_at}
 use Rattle.integers.specs.Fraction.{rounded}
-use Rattle.measurement.specs.SearchLaws.{found_at, value-last, value-words, on-words}
+use Rattle.measurement.proofs.SearchLaws.{found_at, value-last, value-words, on-words}
 use Rattle.measurement.proofs.from_point.Goals as goal
 
 pub overflow_mul-k : goal.overflow_mul-k

@@ -11,7 +11,7 @@ use mir.Val.{to_z}
 use mir.Facts.{to_z-of_z}
 use Rattle.integers.specs.IntLaws.{bk, back_at}
 use Rattle.measurement.specs.Curve.{point_at, highest_of}
-use Rattle.measurement.specs.SearchLaws.{last-first}
+use Rattle.measurement.proofs.SearchLaws.{last-first}
 use Rattle.measurement.specs.declared.Found.TheVariants.{At}
 use Rattle.measurement.proofs.highest.Goals as goal
 

@@ -10,12 +10,12 @@ use mir.Val.{to_z}
 use mir.Facts.{to_z-of_z}
 use Rattle.integers.specs.IntLaws.{bk, back_at}
 use Rattle.measurement.specs.Curve.{point_at, highest_of}
-use Rattle.measurement.specs.SearchLaws.{last-first}
+use Rattle.measurement.proofs.SearchLaws.{last-first}
 use Rattle.measurement.specs.declared.Found.TheVariants.{At}
 use Rattle.measurement.proofs.highest.Given as goal
 
 abbrev pub invariant-loop-left : goal.invariant-loop-left
-invariant-loop-left l = (l.left ≤ l.n) × (highest_of l.points l.left (to_z w64 l.v) ≡ highest_of l.points l.n (to_z w64 l.v))
+invariant-loop-left l = (l.left ≤ l.n) × (highest_of l.points l.left l.v ≡ highest_of l.points l.n l.v)
 
 abbrev pub decreases-loop-left : goal.decreases-loop-left
 decreases-loop-left l = l.left

@@ -6,7 +6,7 @@ use mir.Facts.{to_z-of_z}
 use Rattle.integers.specs.IntLaws.{kept}
 use Rattle.integers.specs.Fraction.{rounded}
 use Rattle.measurement.specs.Curve.{curve, linearized_by}
-use Rattle.measurement.specs.SearchLaws.{usable, curve-four}
+use Rattle.measurement.proofs.SearchLaws.{usable, curve-four}
 use Rattle.measurement.proofs.linearized.Goals as goal
 
 pub one_quadrant-requires : goal.one_quadrant-requires

@@ -15,7 +15,7 @@ use Rattle.measurement.specs.declared.Measurement.{Measurement}
 use Rattle.measurement.specs.declared.Scaling.{Scaling}
 use Rattle.measurement.specs.Curve.{linearized_of, linearized_by}
 use Rattle.measurement.specs.Measure.{distance_of, distance_at, scaled_by, scaled_at, used_points, value_of, measured_of, scaling_half, line_half, measurement_of}
-use Rattle.measurement.specs.MeasureLaws.{distance-within, scaled-within}
+use Rattle.measurement.proofs.MeasureLaws.{distance-within, scaled-within}
 use Rattle.measurement.proofs.measure.Goals as goal
 
 pub scaled-v-requires : goal.scaled-v-requires

@@ -10,7 +10,7 @@ use mir.Facts.{to_z-of_z}
 use Rattle.integers.specs.Limit.{Z}
 use Rattle.integers.specs.IntLaws.{bk, ints, excl, kept, within, add-within, sub_within, mul-within, fits-within, mul-fits}
 use Rattle.integers.specs.Int.{Within}
-use Rattle.measurement.specs.SearchLaws.{line-value}
+use Rattle.measurement.proofs.SearchLaws.{line-value}
 use Rattle.measurement.proofs.on_line.Goals as goal
 
 pub overflow_cast-dx : goal.overflow_cast-dx

@@ -7,7 +7,7 @@ use mir.Syntax.{w64}
 use mir.Facts.{to_z-of_z}
 use Rattle.integers.specs.IntLaws.{bk, ints, fit}
 use Rattle.integers.specs.Round.{rounding}
-use Rattle.measurement.specs.SearchLaws.{four-within, one-negative, one-positive}
+use Rattle.measurement.proofs.SearchLaws.{four-within, one-negative, one-positive}
 use Rattle.measurement.proofs.one_quadrant.Goals as goal
 
 pub overflow_sub-v : goal.overflow_sub-v

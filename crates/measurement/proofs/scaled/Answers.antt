@@ -10,8 +10,8 @@ use mir.Facts.{to_z-of_z, to_z_pos}
 use Rattle.integers.specs.IntLaws.{bk, ints, fit, kept, mul-within, mul-fits}
 use Rattle.integers.specs.Int.{Within}
 use Rattle.integers.specs.Round.{rounding}
-use Rattle.integers.specs.RoundLaws.{round-within}
-use Rattle.measurement.specs.MeasureLaws.{scaled-is}
+use Rattle.integers.proofs.RoundLaws.{round-within}
+use Rattle.measurement.proofs.MeasureLaws.{scaled-is}
 use Rattle.measurement.proofs.scaled.Goals as goal
 
 pub overflow_mul-d : goal.overflow_mul-d

@@ -1,6 +1,6 @@
 -- `measurement::whole` meets its contract: a whole number is its own rounding, and no half.
 use mir.Facts.{to_z-of_z}
-use Rattle.integers.specs.HalfLaws.{whole-rounded}
+use Rattle.integers.proofs.HalfLaws.{whole-rounded}
 use Rattle.measurement.proofs.whole.Goals as goal
 
 pub returns : goal.returns

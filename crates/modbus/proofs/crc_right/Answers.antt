@@ -19,4 +19,4 @@ returns c = let n = c in
     let s = n in
     let l = length s.args.f.now in
     let e : l - 2 + 1 ≡ l - 1 = omega (arith, s.if-f-lt2.false) in
-    rw (le-leb _ _ s.if-f-lt2.false, n.number_of_lem.ensures, c.crc.ensures, e)
+    rw (le-leb _ _ s.if-f-lt2.false, n.number_of.ensures, c.crc.ensures, e)

@@ -8,7 +8,7 @@ use lib.ListN.{length}
 use Rattle.integers.specs.IntLaws.{back_at}
 use mathlib.Core.Bool.{false}
 use Rattle.modbus.specs.Request.{is_unknown, wrong_amount, wrong_start, request_in}
-use Rattle.modbus.specs.WholeLaws.{Whole, whole, known-long, write-long}
+use Rattle.modbus.proofs.WholeLaws.{Whole, whole, known-long, write-long}
 use Rattle.modbus.proofs.requested.Goals as goal
 use Rattle.modbus.proofs.requested.Tie as tie
 
@@ -112,7 +112,7 @@ returns-then-f-eq-WRITE c =
     let u = a in
     (sym u.unknown.ensures ∙ a.if-unknown.false, sym a.wrong_amount.ensures ∙ s.if-wrong_amount.false, sym s.wrong_start.ensures ∙ c.if-wrong_start.false) in
     let s = c in
-    rw ((passed).0, (passed).1, (passed).2, eq-eqb _ _ c.if-f-eq-WRITE.true, back_at w32 c.value_of_lem.result c.value_of_lem.type_inv, c.value_of_lem.ensures, c.start_of_lem.ensures)
+    rw ((passed).0, (passed).1, (passed).2, eq-eqb _ _ c.if-f-eq-WRITE.true, back_at w32 c.value_of.result c.value_of.type_inv, c.value_of.ensures, c.start_of.ensures)
 
 pub start_of-requires-2 : goal.start_of-requires-2
 start_of-requires-2 c =

@@ -5,4 +5,4 @@ use borrow.Author.Rules.{rules}
 use Rattle.modbus.proofs.value_of.Goals as goal
 
 pub returns : goal.returns
-returns c = rw (back_at w32 c.signed.result c.signed.type_inv, c.signed.ensures, c.number_of-high.ensures, c.number_of_lem.ensures)
+returns c = rw (back_at w32 c.signed.result c.signed.type_inv, c.signed.ensures, c.number_of-high.ensures, c.number_of-low.ensures)

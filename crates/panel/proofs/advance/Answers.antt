@@ -13,7 +13,7 @@ use Rattle.panel.specs.declared.Answer.{Answer}
 use Rattle.panel.specs.declared.Begun.{Begun}
 use Rattle.panel.specs.Step.{answer_of, settled_of, step_of}
 use Rattle.panel.specs.StepWay.{answer_after}
-use Rattle.panel.specs.ValidLaws.{good-step}
+use Rattle.panel.proofs.ValidLaws.{good-step}
 use Rattle.panel.proofs.advance.Goals as goal
 
 -- an answer that is the step's leaves a valid state

@@ -9,7 +9,7 @@ use Rattle.panel.proofs.answered.Goals as goal
 pub returns : goal.returns
 unfolding answer_of
 returns c = let b = c in
-    let l = b.args.t1.live in
+    let l = b.args.s.live in
     let r : bk w32 l.reading.result ≡ l.reading.result = search rules in
     let d : bk w32 l.shown ≡ l.shown = search rules in
     rw (r, d, b.outputs-levels.ensures)

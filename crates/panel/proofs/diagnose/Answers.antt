@@ -1,7 +1,7 @@
 -- `panel::diagnose` meets its contract: the layout of a valid table is sound, and its bits per turn are 10 to 16.
 use borrow.Author.Rules.{rules}
 use native.Mathlib.Omega.{arith}
-use Rattle.parameters.specs.RangeLaws.{bits-per-turn-range}
+use Rattle.parameters.proofs.RangeLaws.{bits-per-turn-range}
 use Rattle.settings.specs.SettingsLaws.{layout-sound}
 use Rattle.panel.proofs.diagnose.Goals as goal
 

@@ -3,7 +3,7 @@ use borrow.Author.Rules.{rules}
 use borrow.Author.Tests.{not-true, not-false}
 use Rattle.reading.specs.Reading.{marked_of}
 use Rattle.state.specs.State.{reread_of, received_of}
-use Rattle.state.specs.ValidLaws.{reading-number}
+use Rattle.state.proofs.ValidLaws.{reading-number}
 use Rattle.panel.specs.Step.{on_telegram, switched_of, displayed_of}
 use Rattle.panel.proofs.on_telegram.Goals as goal
 

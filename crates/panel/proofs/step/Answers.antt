@@ -8,4 +8,7 @@ pub returns : goal.returns
 unfolding answer_of
 returns c = let a = c.advance-x in
     let is = c.answered.ensures ∙ a.ensures.0 in
-    (is, rw c.answered.ensures a.ensures.1)
+    record {
+      is = is;
+      valid = rw c.answered.ensures a.ensures.1;
+    }

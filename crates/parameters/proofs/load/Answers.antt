@@ -6,7 +6,7 @@ use lib.IntN.{ℤ}
 use Rattle.parameters.specs.Rows.{lowest_out}
 use Rattle.parameters.specs.Search.{first_of}
 use Rattle.parameters.specs.Load.{conflicts, refused_with}
-use Rattle.parameters.specs.LoadLaws.{load-length, load-range, load-conflict, load-fine}
+use Rattle.parameters.proofs.LoadLaws.{load-length, load-range, load-conflict, load-fine}
 use borrow.Author.Rules.{rules}
 use native.Mathlib.Omega.{arith}
 use Rattle.parameters.proofs.load.Goals as goal

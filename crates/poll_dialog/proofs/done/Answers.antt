@@ -7,28 +7,43 @@ use Rattle.poll_dialog.proofs.done.Goals as goal
 pub returns-in-Blank : goal.returns-in-Blank
 unfolding after_asked asked_text
 returns-in-Blank c = let told = c.enum_told-1.given.1 in
-    (rw told, rw told (put-none _ 0))
+    record {
+      is = rw told;
+      text = rw told (put-none _ 0);
+    }
 
 pub returns-in-Wrong : goal.returns-in-Wrong
 unfolding after_asked asked_text
 returns-in-Wrong c = let x = c in
     let told = x.in-Wrong.is in
-    (rw told, rw told x.put_message.ensures)
+    record {
+      is = rw told;
+      text = rw told x.put_message.ensures;
+    }
 
 pub returns-in-Join : goal.returns-in-Join
 unfolding after_asked asked_text
 returns-in-Join c = let x = c in
     let told = x.in-Join.is in
-    (rw told x.join.ensures.is, rw told x.join.ensures.text)
+    record {
+      is = rw told x.join.ensures.is;
+      text = rw told x.join.ensures.text;
+    }
 
 pub returns-in-Report : goal.returns-in-Report
 unfolding after_asked asked_text
 returns-in-Report c = let x = c in
     let told = x.in-Report.is in
-    (rw told x.report.ensures.is, rw told x.report.ensures.text)
+    record {
+      is = rw told x.report.ensures.is;
+      text = rw told x.report.ensures.text;
+    }
 
 pub returns-in-Pick : goal.returns-in-Pick
 unfolding after_asked asked_text
 returns-in-Pick c = let x = c in
     let told = x.in-Pick.is in
-    (rw told x.pick.ensures.is, rw told x.pick.ensures.text)
+    record {
+      is = rw told x.pick.ensures.is;
+      text = rw told x.pick.ensures.text;
+    }

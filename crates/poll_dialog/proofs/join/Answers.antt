@@ -8,4 +8,7 @@ pub returns : goal.returns
 unfolding join_text spoken
 returns c = let put = c in
     let e = put.register-a.ensures in
-    (rw e, rw (← e) put.put_number-end.ensures)
+    record {
+      is = rw e;
+      text = rw (← e) put.put_number-end.ensures;
+    }

@@ -2,7 +2,7 @@
 use native.Mathlib.Omega.{arith}
 use Rattle.text.specs.PutLaws.{put-within}
 use Rattle.poll_dialog.specs.Dialog.{longest_line, after_line, line_text}
-use Rattle.poll_dialog.specs.DialogLaws.{line-at-most}
+use Rattle.poll_dialog.proofs.DialogLaws.{line-at-most}
 use borrow.Author.Rules.{rules}
 use Rattle.poll_dialog.proofs.line.Goals as goal
 
@@ -13,4 +13,8 @@ returns c = let d = c in
     let s = r in
     let is = rw r.read-asked.ensures at d.done.ensures.is in
     let put = rw r.read-asked.ensures at d.done.ensures.text in
-    (is, (put, put-within put longest_line (line-at-most s.args.d s.args.bytes.now) (omega arith)))
+    record {
+      is = is;
+      text = put;
+      within = put-within put longest_line (line-at-most s.args.d s.args.bytes.now) (omega arith);
+    }

@@ -5,4 +5,7 @@ use Rattle.poll_dialog.proofs.pick.Goals as goal
 pub returns : goal.returns
 returns c = let put = c in
     let e = put.pick-t.ensures in
-    (rw e, rw (← e) put.put_choice-end.ensures)
+    record {
+      is = rw e;
+      text = rw (← e) put.put_choice-end.ensures;
+    }

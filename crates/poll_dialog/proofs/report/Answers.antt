@@ -8,4 +8,7 @@ pub returns : goal.returns
 unfolding report_text spoken
 returns c = let put = c in
     let e = put.report-a.ensures in
-    (rw e, rw (← e) put.put_number-end.ensures)
+    record {
+      is = rw e;
+      text = rw (← e) put.put_number-end.ensures;
+    }

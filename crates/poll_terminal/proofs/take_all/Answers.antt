@@ -8,7 +8,7 @@ use Rattle.poll_dialog.specs.Dialog.{after_line}
 use Rattle.script.specs.Collector.{most, collected}
 use Rattle.script.specs.declared.collector.Collector.{Collector}
 use Rattle.script.specs.Talk.{talked_all}
-use Rattle.script.specs.TalkLaws.{talked-by, talked-more, talked-end}
+use Rattle.script.proofs.TalkLaws.{talked-by, talked-more, talked-end}
 use borrow.Author.Rules.{rules}
 use Rattle.poll_terminal.proofs.take_all.Goals as goal
 
@@ -25,7 +25,7 @@ push-x-requires c = omega (arith, c.loop-i.invariant.1)
 
 pub take-d-requires : goal.take-d-requires
 take-d-requires c =
-    let whole : length c.push-x.new.0 ≡ most =
+    let whole : length c.push-x.new.bytes ≡ most =
     omega (arith, c.push-x.auto.0, c.loop-i.invariant.1) in
     omega (arith, whole)
 
@@ -39,13 +39,13 @@ loop-i-smaller c = omega (arith, c.loop-i-test.true)
 
 pub loop-i-preserved : goal.loop-i-preserved
 loop-i-preserved c =
-    let whole : length c.push-x.new.0 ≡ most =
+    let whole : length c.push-x.new.bytes ≡ most =
     omega (arith, c.push-x.auto.0, c.loop-i.invariant.1) in
     let push = c in
     let turn = push in
     let l = turn.loop-i in
     let bytes = turn.args.bytes.now in
-    let one = talked-by after_line l.d c.take-d.result (collected l.held l.x) (collected push.push-x.new.0 push.push-x.result) _ push.push-x.ensures c.take-d.ensures in (
+    let one = talked-by after_line l.d c.take-d.result (collected l.held l.x) (collected push.push-x.new.bytes push.push-x.result) _ push.push-x.ensures c.take-d.ensures in (
       omega (arith, turn.loop-i-test.true),
       whole,
       l.invariant.2 ∙ talked-more after_line (l.d, collected l.held l.x) bytes l.i turn.loop-i-test.true ∙ ap (λ (t : Dispatcher × Collector). talked_all after_line t (drop (l.i + 1) bytes)) (sym one),

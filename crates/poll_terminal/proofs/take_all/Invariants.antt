@@ -8,7 +8,7 @@ use Rattle.poll_dialog.specs.Dialog.{after_line}
 use Rattle.script.specs.Collector.{most, collected}
 use Rattle.script.specs.declared.collector.Collector.{Collector}
 use Rattle.script.specs.Talk.{talked_all}
-use Rattle.script.specs.TalkLaws.{talked-by, talked-more, talked-end}
+use Rattle.script.proofs.TalkLaws.{talked-by, talked-more, talked-end}
 use borrow.Author.Rules.{rules}
 use Rattle.poll_terminal.proofs.take_all.Given as goal
 

@@ -2,7 +2,7 @@
 use borrow.Author.Rules.{rules}
 use Rattle.settings.specs.Settings.{layout_of, scaling_of}
 use Rattle.settings.specs.SettingsLaws.{layout-sound}
-use Rattle.ssi.specs.SoundLaws.{position-lt}
+use Rattle.ssi.proofs.SoundLaws.{position-lt}
 use Rattle.reading.specs.ReadingWay.{basis-by}
 use Rattle.reading.proofs.basis_after.Goals as goal
 

@@ -3,7 +3,7 @@ use borrow.Author.Rules.{rules}
 use borrow.Author.Tests.{eq-eqb, ne_eqb}
 use mathlib.Core.Path.{sym, ◌∙◌}
 use mir.Facts.{to_z-of_z}
-use Rattle.analog.specs.CodeLaws.{code_fits}
+use Rattle.analog.proofs.CodeLaws.{code_fits}
 use Rattle.measurement.specs.Measure.{error_number}
 use Rattle.reading.specs.Reading.{code_at, drive_at}
 use Rattle.reading.proofs.driven.Goals as goal

@@ -13,4 +13,4 @@ pub returns : goal.returns
 returns c = let a = c in
     let p = a in
     let s = p in
-    rw (c.read_by_lem.ensures, a.analog_span.ensures, p.points.ensures, s.scaling.ensures) (marked_by_lem s.args.t.now s.args.b)
+    rw (c.read_by.ensures, a.analog_span.ensures, p.points.ensures, s.scaling.ensures) (marked_by_lem s.args.t.now s.args.b)

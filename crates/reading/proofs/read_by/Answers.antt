@@ -10,8 +10,8 @@ use Rattle.reading.proofs.read_by.Goals as goal
 
 pub driven-drive-requires : goal.driven-drive-requires
 unfolding code_at coded_at coded_of
-driven-drive-requires c = let k : bk w32 c.code_of_lem.result.code ≡ c.code_of_lem.result.code = search rules in
-    rw (k, c.code_of_lem.ensures)
+driven-drive-requires c = let k : bk w32 c.code_of-c.result.code ≡ c.code_of-c.result.code = search rules in
+    rw (k, c.code_of-c.ensures)
 
 pub returns : goal.returns
 unfolding measurement_of code_at coded_at coded_of
@@ -19,5 +19,5 @@ returns c = let d = c in
     let k = d in
     let m = k.measure-x in
     let r : bk w32 m.result.measured.result ≡ m.result.measured.result = search rules in
-    let z : bk w32 k.code_of_lem.result.code ≡ k.code_of_lem.result.code = search rules in
-    rw (r, z, d.driven-drive.ensures, c.marks-halves.ensures, k.code_of_lem.ensures, m.ensures)
+    let z : bk w32 k.code_of-c.result.code ≡ k.code_of-c.result.code = search rules in
+    rw (r, z, d.driven-drive.ensures, c.marks-halves.ensures, k.code_of-c.ensures, m.ensures)

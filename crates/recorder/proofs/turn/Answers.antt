@@ -8,9 +8,9 @@ use borrow.Author.Tests.{lt-ltb, le-ltb}
 use lib.ListN.{length, take, drop, take-append-drop}
 use lib.Seq.{take-length}
 use Rattle.bitplanes.specs.Turned.{in_groups}
-use Rattle.bitplanes.specs.GroupLaws.{groups-append, group-next}
+use Rattle.bitplanes.proofs.GroupLaws.{groups-append, group-next}
 use Rattle.recorder.specs.Recorded.{turned_bytes, stored}
-use Rattle.recorder.specs.RecordedLaws.{bytes-keep}
+use Rattle.recorder.proofs.RecordedLaws.{bytes-keep}
 use Rattle.recorder.proofs.turn.Goals as goal
 
 pub returns-then-output-n : goal.returns-then-output-n
@@ -30,7 +30,7 @@ loop-at-preserved c = let call = c in
       search rules,
       search rules,
       at.loop-at.invariant.3 ∙ ap (λ (x : ℕ). take at.loop-at.at at.loop-at.output ++ in_groups 128 turned_bytes x (drop at.loop-at.at at.loop-at.output)) k
-          ∙ group-next 128 turned_bytes bytes-keep at.loop-at.output call.turn_group.new.0 at.loop-at.at ((n - (at.loop-at.at + 128)) / 128) (at.loop-at.at + 128 - at.loop-at.at)
+          ∙ group-next 128 turned_bytes bytes-keep at.loop-at.output call.turn_group.new.group at.loop-at.at ((n - (at.loop-at.at + 128)) / 128) (at.loop-at.at + 128 - at.loop-at.at)
           (omega arith) (omega arith) call.turn_group.ensures,
     )
 

@@ -8,9 +8,9 @@ use borrow.Author.Tests.{lt-ltb, le-ltb}
 use lib.ListN.{length, take, drop, take-append-drop}
 use lib.Seq.{take-length}
 use Rattle.bitplanes.specs.Turned.{in_groups}
-use Rattle.bitplanes.specs.GroupLaws.{groups-append, group-next}
+use Rattle.bitplanes.proofs.GroupLaws.{groups-append, group-next}
 use Rattle.recorder.specs.Recorded.{turned_bytes, stored}
-use Rattle.recorder.specs.RecordedLaws.{bytes-keep}
+use Rattle.recorder.proofs.RecordedLaws.{bytes-keep}
 use Rattle.recorder.proofs.turn.Given as goal
 
 abbrev pub invariant-loop-at : goal.invariant-loop-at

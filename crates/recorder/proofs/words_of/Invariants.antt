@@ -6,7 +6,7 @@ use native.Mathlib.Omega.{arith}
 use lib.ListN.{length, take, drop, set}
 use lib.Seq.{take_all}
 use Rattle.events.specs.Bytes.{words_in}
-use Rattle.events.specs.ByteLaws.{words-done}
+use Rattle.events.proofs.ByteLaws.{words-done}
 use Rattle.recorder.specs.LoopLaws.{words_more}
 use borrow.Author.Rules.{rules}
 use Rattle.recorder.proofs.words_of.Given as goal

@@ -1,7 +1,7 @@
 -- `registers::answer` meets its contract: what the frame asks is done, and a valid state stays valid.
 use borrow.Author.Rules.{rules}
 use Rattle.registers.specs.Serve.{served_of}
-use Rattle.registers.specs.ServeLaws.{promised}
+use Rattle.registers.proofs.ServeLaws.{promised}
 use Rattle.registers.proofs.answer.Goals as goal
 
 pub returns : goal.returns

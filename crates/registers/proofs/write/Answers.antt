@@ -4,7 +4,7 @@ use mathlib.Core.Path.{◌≡◌}
 use mir.Facts.{to_z-of_z}
 use Rattle.parameters.specs.Slots.{with_word}
 use Rattle.registers.specs.Serve.{slot_in}
-use Rattle.registers.specs.ServeLaws.{refused-write, write_done}
+use Rattle.registers.proofs.ServeLaws.{refused-write, write_done}
 use Rattle.registers.proofs.write.Goals as goal
 
 pub returns-then-x-ne0 : goal.returns-then-x-ne0

@@ -11,10 +11,10 @@ use mir.Syntax.{w64}
 use mir.Facts.{to_z-of_z, to_z_pos}
 use Rattle.integers.specs.Int.{P, N}
 use Rattle.integers.specs.IntLaws.{ints, back_at, abs_is}
-use Rattle.integers.specs.ModLaws.{rest-within}
+use Rattle.integers.proofs.ModLaws.{rest-within}
 use Rattle.integers.specs.Round.{floor_mod}
 use Rattle.roundloop.specs.Count.{step_from, counted_of}
-use Rattle.roundloop.specs.CountLaws.{step-within}
+use Rattle.roundloop.proofs.CountLaws.{step-within}
 use Rattle.roundloop.proofs.counted.Goals as goal
 
 pub step-s-requires : goal.step-s-requires

@@ -7,7 +7,7 @@ use lib.IntN.{ℤ, pos, ◌+ℤ◌, ◌-ℤ◌}
 use mir.Syntax.{w64}
 use mir.Facts.{to_z-of_z, to_z_pos}
 use Rattle.integers.specs.IntLaws.{ints, sub_is, back_at}
-use Rattle.integers.specs.ModLaws.{rest-within}
+use Rattle.integers.proofs.ModLaws.{rest-within}
 use Rattle.integers.specs.Round.{floor_mod}
 use Rattle.roundloop.specs.Count.{step_from}
 use Rattle.roundloop.proofs.step.Goals as goal

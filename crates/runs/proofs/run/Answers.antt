@@ -5,7 +5,7 @@ use Rattle.panel.specs.declared.Loaded.{Loaded}
 use Rattle.panel.specs.Load.{loaded_of}
 use Rattle.panel.specs.Step.{answer_of}
 use Rattle.runs.specs.Words.{events_in}
-use Rattle.runs.specs.RanLaws.{refused-run, refused-promise, loaded-last, loaded-run, loaded-promise}
+use Rattle.runs.proofs.RanLaws.{refused-run, refused-promise, loaded-last, loaded-run, loaded-promise}
 use Rattle.runs.proofs.run.Goals as goal
 
 pub returns-then-l-ne0 : goal.returns-then-l-ne0
@@ -27,4 +27,7 @@ returns c = let b = c in
     let z : (loaded_of s.table.now).refusal ≡ 0 = ap (λ (x : Loaded). x.refusal) (sym l.ensures.0) ∙ c.if-l-ne0.false in
     let e = rw (b.answered-first.ensures, l.ensures.0) at c.run_on-last.ensures.is in
     let last = e ∙ loaded-last s.table.now (events_in s.log.now) z in
-    (loaded-run s.table.now (events_in s.log.now) _ z last, loaded-promise s.table.now (events_in s.log.now) _ last)
+    record {
+      is = loaded-run s.table.now (events_in s.log.now) _ z last;
+      demand3 = loaded-promise s.table.now (events_in s.log.now) _ last;
+    }

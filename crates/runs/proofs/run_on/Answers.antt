@@ -8,7 +8,7 @@ use lib.ListN.{length, drop}
 use Rattle.state.specs.Valid.{Good}
 use Rattle.runs.specs.Run.{last_of, answers_of}
 use Rattle.runs.specs.Words.{events_in}
-use Rattle.runs.specs.WordLaws.{words_more, words-end}
+use Rattle.runs.proofs.WordLaws.{words_more, words-end}
 use Rattle.runs.proofs.run_on.Goals as goal
 
 pub loop-i-init : goal.loop-i-init
@@ -37,4 +37,7 @@ loop-i-preserved c = let l = c.loop-i in
 pub returns : goal.returns
 returns c = let l = c.loop-i in
     let log = c.args.log.now in
-    (sym (l.invariant.2 ∙ words-end l.last log l.i (omega arith)), l.invariant.1)
+    record {
+      is = sym (l.invariant.2 ∙ words-end l.last log l.i (omega arith));
+      valid = l.invariant.1;
+    }

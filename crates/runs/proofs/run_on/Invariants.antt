@@ -7,7 +7,7 @@ use lib.ListN.{length, drop}
 use Rattle.state.specs.Valid.{Good}
 use Rattle.runs.specs.Run.{last_of, answers_of}
 use Rattle.runs.specs.Words.{events_in}
-use Rattle.runs.specs.WordLaws.{words_more, words-end}
+use Rattle.runs.proofs.WordLaws.{words_more, words-end}
 use Rattle.runs.proofs.run_on.Given as goal
 
 abbrev pub invariant-loop-i : goal.invariant-loop-i

@@ -12,7 +12,10 @@ returns-in-Count c = let known = c in
     let n = known in
     let s = n in
     let e : n.natural-n.result ≡ number_behind s.args.line.now = rw (n.natural-n.ensures, n.only.ensures, n.rest.ensures, others-of s.args.line.now) in
-    (rw (← e, known.in-Count.is) c.with_given.ensures, rw (← e, known.in-Count.is) (put-none _ 0))
+    record {
+      is = rw (← e, known.in-Count.is) c.with_given.ensures;
+      text = rw (← e, known.in-Count.is) (put-none _ 0);
+    }
 
 pub returns-in-Missing : goal.returns-in-Missing
 unfolding after_cut cut_text
@@ -21,4 +24,7 @@ returns-in-Missing c = let w = c in
     let n = known in
     let s = n in
     let e : n.natural-n.result ≡ number_behind s.args.line.now = rw (n.natural-n.ensures, n.only.ensures, n.rest.ensures, others-of s.args.line.now) in
-    (rw (← e, known.enum_told.given.1), rw (← e, known.enum_told.given.1) w.wrong.ensures)
+    record {
+      is = rw (← e, known.enum_told.given.1);
+      text = rw (← e, known.enum_told.given.1) w.wrong.ensures;
+    }

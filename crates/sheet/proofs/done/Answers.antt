@@ -7,40 +7,61 @@ pub returns-in-Plain : goal.returns-in-Plain
 unfolding after_word word_text
 returns-in-Plain c = let x = c in
     let told = x.enum_told-1.given.1 in
-    (rw told x.plain.ensures.is, rw told x.plain.ensures.text)
+    record {
+      is = rw told x.plain.ensures.is;
+      text = rw told x.plain.ensures.text;
+    }
 
 pub returns-in-Heading : goal.returns-in-Heading
 unfolding after_word word_text
 returns-in-Heading c = let x = c in
     let told = x.in-Heading.is in
-    (rw told x.heading.ensures.is, rw told x.heading.ensures.text)
+    record {
+      is = rw told x.heading.ensures.is;
+      text = rw told x.heading.ensures.text;
+    }
 
 pub returns-in-Log : goal.returns-in-Log
 unfolding after_word word_text
 returns-in-Log c = let x = c in
     let told = x.in-Log.is in
-    (rw told x.log.ensures.is, rw told x.log.ensures.text)
+    record {
+      is = rw told x.log.ensures.is;
+      text = rw told x.log.ensures.text;
+    }
 
 pub returns-in-End : goal.returns-in-End
 unfolding after_word word_text
 returns-in-End c = let x = c in
     let told = x.in-End.is in
-    (rw told x.last.ensures.is, rw told x.last.ensures.text)
+    record {
+      is = rw told x.last.ensures.is;
+      text = rw told x.last.ensures.text;
+    }
 
 pub returns-in-Cut : goal.returns-in-Cut
 unfolding after_word word_text
 returns-in-Cut c = let x = c in
     let told = x.in-Cut.is in
-    (rw told x.cut.ensures.is, rw told x.cut.ensures.text)
+    record {
+      is = rw told x.cut.ensures.is;
+      text = rw told x.cut.ensures.text;
+    }
 
 pub returns-in-Extremes : goal.returns-in-Extremes
 unfolding after_word word_text
 returns-in-Extremes c = let x = c in
     let told = x.in-Extremes.is in
-    (rw told, rw (told, ← x.extremes_of.ensures) x.extremes.ensures)
+    record {
+      is = rw told;
+      text = rw (told, ← x.extremes_of.ensures) x.extremes.ensures;
+    }
 
 pub returns-in-Asked : goal.returns-in-Asked
 unfolding after_word word_text
 returns-in-Asked c = let x = c in
     let told = x.in-Asked.is in
-    (rw told, rw told x.asked.ensures)
+    record {
+      is = rw told;
+      text = rw told x.asked.ensures;
+    }

@@ -15,7 +15,8 @@ pub returns : goal.returns
 returns c = let line = c in
     let n = line in
     let a = n in
-    let s = a in (
-      c.with_run-sheet.ensures ∙ rw n.next_count-count.ensures (event-done s.args.s _ _ a.advance-o.result a.advance-o.ensures.is),
-      rw (n.next_count-count.ensures, event-told s.args.s _ _ a.advance-o.ensures.is) at line.event_line-end.ensures,
-    )
+    let s = a in
+    record {
+      is = c.with_run-sheet.ensures ∙ rw n.next_count-count.ensures (event-done s.args.s _ _ a.advance-o.result a.advance-o.ensures.is);
+      text = rw (n.next_count-count.ensures, event-told s.args.s _ _ a.advance-o.ensures.is) at line.event_line-end.ensures;
+    }

@@ -4,7 +4,7 @@ use native.Mathlib.Omega.{arith}
 use lib.ListN.{length}
 use lib.Seq.{length-take-le}
 use Rattle.script.specs.declared.frames.Bytes.{Bytes}
-use Rattle.script.specs.FrameLaws.{frame-fits, packed-length, packed-bytes}
+use Rattle.script.proofs.FrameLaws.{frame-fits, packed-length, packed-bytes}
 use borrow.Author.Rules.{rules}
 use Rattle.sheet.proofs.last.Goals as goal
 
@@ -22,4 +22,7 @@ piece-requires c = let f = c in
 pub returns : goal.returns
 returns c = let g = c in
     let f = g in
-    (rw (f.frame-f.ensures, packed-bytes) at g.piece.ensures.is, rw (f.frame-f.ensures, packed-bytes) at g.piece.ensures.text)
+    record {
+      is = rw (f.frame-f.ensures, packed-bytes) at g.piece.ensures.is;
+      text = rw (f.frame-f.ensures, packed-bytes) at g.piece.ensures.text;
+    }

@@ -15,7 +15,12 @@ pub returns-then-bytes-gt1024 : goal.returns-then-bytes-gt1024
 unfolding after_line line_text
 returns-then-bytes-gt1024 c = let w = c in
     let long = lt-ltb _ _ w.if-bytes-gt1024.true in
-    (rw long, (rw long w.wrong.ensures, (w.requires.0, put-within w.wrong.ensures 15 (omega arith) (omega arith))))
+    record {
+      is = rw long;
+      text = rw long w.wrong.ensures;
+      ready = w.requires.0;
+      within = put-within w.wrong.ensures 15 (omega arith) (omega arith);
+    }
 
 pub returns : goal.returns
 unfolding after_line line_text
@@ -26,4 +31,9 @@ returns c = let d = c in
     let e : d.named-word.result ≡ word_named (first_of (words_of line)) = rw (d.named-word.ensures, d.word.ensures, first-of line) in
     let is : d.done.result.sheet ≡ after_line s.args.s line = rw (short, ← e) d.done.ensures.is in
     let told : word_text s.args.s line d.named-word.result ≡ line_text s.args.s line = rw (short, ← e) in
-    (is, (rw (short, ← e) d.done.ensures.text, (rw is (ready-line s.args.s line s.requires.0), line-within s.args.s line told d.done.ensures.text s.requires.1)))
+    record {
+      is = is;
+      text = rw (short, ← e) d.done.ensures.text;
+      ready = rw is (ready-line s.args.s line s.requires.0);
+      within = line-within s.args.s line told d.done.ensures.text s.requires.1;
+    }

@@ -30,16 +30,18 @@ returns-then-is_log c = let x = c in
     let is = p.is_log.ensures in
     let fits = log-fits _ (sym is ∙ p.if-is_log.true) in
     let front = put_front p.put_log-n.ensures (omega arith) in
-    let line = p.args.line.now in (
-      rw (others-of line, ← p.rest-t.ensures, ← is, p.if-is_log.true) (rw front at x.piece.ensures.is),
-      rw (others-of line, ← p.rest-t.ensures, ← is, p.if-is_log.true) (rw front at x.piece.ensures.text),
-    )
+    let line = p.args.line.now in
+    record {
+      is = rw (others-of line, ← p.rest-t.ensures, ← is, p.if-is_log.true) (rw front at x.piece.ensures.is);
+      text = rw (others-of line, ← p.rest-t.ensures, ← is, p.if-is_log.true) (rw front at x.piece.ensures.text);
+    }
 
 pub returns : goal.returns
 unfolding after_log log_text
 returns c = let w = c in
     let test = w in
-    let line = w.args.line.now in (
-      rw (others-of line, ← test.rest-t.ensures, ← test.is_log.ensures, test.if-is_log.false),
-      rw (others-of line, ← test.rest-t.ensures, ← test.is_log.ensures, test.if-is_log.false) w.wrong-end.ensures,
-    )
+    let line = w.args.line.now in
+    record {
+      is = rw (others-of line, ← test.rest-t.ensures, ← test.is_log.ensures, test.if-is_log.false);
+      text = rw (others-of line, ← test.rest-t.ensures, ← test.is_log.ensures, test.if-is_log.false) w.wrong-end.ensures;
+    }

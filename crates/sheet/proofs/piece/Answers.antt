@@ -14,4 +14,7 @@ pub returns : goal.returns
 unfolding after_piece piece_of
 returns c = let r = c.run_piece-r.ensures in
     let on = not-false c.args.s.running c.if-not-s.false in
-    (c.with_run-sheet.ensures ∙ rw (on, r.0, r.1.0), rw on r.1.1.0)
+    record {
+      is = c.with_run-sheet.ensures ∙ rw (on, r.0, r.1.0);
+      text = rw on r.1.1.0;
+    }

@@ -10,4 +10,7 @@ unfolding after_start start_text
 returns c = let o = c.opened-o.ensures in
     let t = c in
     let whole = table-whole c.args.s.table (put_table-requires t t.put_table.lifetimes).1 (search rules) t.put_table.ensures in
-    (c.with_run-sheet.ensures ∙ rw (o.0, o.1.0, whole), rw whole at o.1.1)
+    record {
+      is = c.with_run-sheet.ensures ∙ rw (o.0, o.1.0, whole);
+      text = rw whole at o.1.1;
+    }

@@ -3,7 +3,7 @@ use Rattle.std.proofs.Common.{ℕ, ◌+◌, ◌-◌, ◌<◌, Bool, true, false,
 use Rattle.state.specs.Valid.{Good}
 use Rattle.framing.specs.declared.Collector.{Collector}
 use Rattle.framing.specs.Collector.{pushed, fed_to}
-use Rattle.framing.specs.PieceLaws.{fed-next, next-on}
+use Rattle.framing.proofs.PieceLaws.{fed-next, next-on}
 use Rattle.slave.proofs.after_bytes.Goals as goal
 
 past : (node : ℕ) (c : Collector) (l : List ℕ) (i : ℕ) → i < length l → i < (fed_to node c (drop i l) i).next

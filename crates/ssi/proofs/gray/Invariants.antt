@@ -6,7 +6,7 @@ use native.Mathlib.Nat.{div-one, div-eq_of_lt}
 use lib.Bits.{bit_and, and_mask}
 use lib.Count.{ones}
 use Rattle.ssi.specs.Telegram.{gray_decoded}
-use Rattle.ssi.specs.GrayLaws.{decoded-next, decoded-lt, decoded-fits}
+use Rattle.ssi.proofs.GrayLaws.{decoded-next, decoded-lt, decoded-fits}
 use Rattle.ssi.proofs.gray.Given as goal
 
 abbrev pub invariant-loop-k : goal.invariant-loop-k

@@ -13,7 +13,7 @@ use Rattle.switching.specs.EachLaws.{done_to, each_start, each_more, each-end}
 use Rattle.switching.proofs.switch_all.Given as goal
 
 abbrev pub invariant-loop-k : goal.invariant-loop-k
-invariant-loop-k l = (l.k ≤ 4) × (length l.next ≡ 4) × (each_from 0 (switched_at l.ps (to_z w32 l.r)) l.initial.next ≡ done_to (switched_at l.ps (to_z w32 l.r)) l.next l.k)
+invariant-loop-k l = (l.k ≤ 4) × (length l.next ≡ 4) × (each_from 0 (switched_at l.ps l.r) l.initial.next ≡ done_to (switched_at l.ps l.r) l.next l.k)
 
 abbrev pub decreases-loop-k : goal.decreases-loop-k
 decreases-loop-k l = 4 - l.k

@@ -6,7 +6,7 @@ use mir.Syntax.{w32}
 use mir.Facts.{to_z-of_z}
 use Rattle.integers.specs.IntLaws.{bk}
 use Rattle.switching.specs.Switching.{switched_at, preselection_at}
-use Rattle.switching.specs.SwitchingLaws.{partner-below}
+use Rattle.switching.proofs.SwitchingLaws.{partner-below}
 use Rattle.switching.proofs.switched_at.Goals as goal
 
 pub offset_bounds-ps-partner_of : goal.offset_bounds-ps-partner_of
@@ -19,6 +19,6 @@ pub returns : goal.returns
 unfolding switched_at
 returns c = let p = c in
     let s = p in
-    let other = preselection_at s.args.t1 p.partner_of.result in
+    let other = preselection_at s.args.ps p.partner_of.result in
     let value-is : bk w32 other.value ≡ other.value = search rules in
     rw (c.switched.ensures, value-is, to_z-of_z s.ranges.r, p.partner_of.ensures)

@@ -8,9 +8,9 @@ use Rattle.switching.proofs.tick_all.Goals as goal
 
 pub returns : goal.returns
 returns c =
-    let four : length c.args.t2 ≡ 4 =
+    let four : length c.args.ss ≡ 4 =
     search rules in
     let third = c in
     let second = third in
     let first = second in
-    each-four _ first.args.t2 fresh_switch (four) first.ticked.ensures second.ticked-2.ensures third.ticked-3.ensures c.ticked-4.ensures
+    each-four _ first.args.ss fresh_switch (four) first.ticked.ensures second.ticked-2.ensures third.ticked-3.ensures c.ticked-4.ensures

@@ -8,9 +8,9 @@ use Rattle.switching.proofs.unlock_all.Goals as goal
 
 pub returns : goal.returns
 returns c =
-    let four : length c.args.t1 ≡ 4 =
+    let four : length c.args.ss ≡ 4 =
     search rules in
     let third = c in
     let second = third in
     let first = second in
-    each-four _ first.args.t1 fresh_switch (four) first.unlocked.ensures second.unlocked-2.ensures third.unlocked-3.ensures c.unlocked-4.ensures
+    each-four _ first.args.ss fresh_switch (four) first.unlocked.ensures second.unlocked-2.ensures third.unlocked-3.ensures c.unlocked-4.ensures

@@ -8,4 +8,7 @@ use Rattle.terminal.proofs.answer.Goals as goal
 pub returns : goal.returns
 returns c = let line = c in
     let h = line in
-    (rw (← h.held-n.ensures.0) line.line-s.ensures.is, line.line-s.ensures.text.1.0)
+    record {
+      is = rw (← h.held-n.ensures.0) line.line-s.ensures.is;
+      ready = line.line-s.ensures.text.1.0;
+    }

@@ -8,7 +8,7 @@ use Rattle.dialog.specs.Dialog.{Ready, after_line}
 use Rattle.script.specs.Collector.{most, collected}
 use Rattle.script.specs.declared.collector.Collector.{Collector}
 use Rattle.script.specs.Talk.{talked_all}
-use Rattle.script.specs.TalkLaws.{talked-by, talked-more, talked-end}
+use Rattle.script.proofs.TalkLaws.{talked-by, talked-more, talked-end}
 use borrow.Author.Rules.{rules}
 use Rattle.terminal.proofs.take_all.Goals as goal
 
@@ -25,7 +25,7 @@ push-x-requires c = omega (arith, c.loop-i.invariant.2)
 
 pub take-c-requires : goal.take-c-requires
 take-c-requires c =
-    let whole : length c.push-x.new.0 ≡ most =
+    let whole : length c.push-x.new.bytes ≡ most =
     omega (arith, c.push-x.auto.0, c.loop-i.invariant.2) in
     (c.loop-i.invariant.0, omega (arith, whole))
 
@@ -39,13 +39,13 @@ loop-i-smaller c = omega (arith, c.loop-i-test.true)
 
 pub loop-i-preserved : goal.loop-i-preserved
 loop-i-preserved c =
-    let whole : length c.push-x.new.0 ≡ most =
+    let whole : length c.push-x.new.bytes ≡ most =
     omega (arith, c.push-x.auto.0, c.loop-i.invariant.2) in
     let push = c in
     let turn = push in
     let l = turn.loop-i in
     let bytes = turn.args.bytes.now in
-    let one = talked-by after_line l.c c.take-c.result (collected l.held l.x) (collected push.push-x.new.0 push.push-x.result) _ push.push-x.ensures c.take-c.ensures.is in (
+    let one = talked-by after_line l.c c.take-c.result (collected l.held l.x) (collected push.push-x.new.bytes push.push-x.result) _ push.push-x.ensures c.take-c.ensures.is in (
       c.take-c.ensures.ready,
       omega (arith, turn.loop-i-test.true),
       whole,
@@ -55,4 +55,7 @@ loop-i-preserved c =
 pub returns : goal.returns
 returns c = let at = c in
     let all = rw at.extent_of-x.ensures at at.loop-i.invariant.3 in
-    (rw c.kept.ensures (sym (all ∙ talked-end after_line _ _ _ c.loop-i-test.false)), at.loop-i.invariant.0)
+    record {
+      is = rw c.kept.ensures (sym (all ∙ talked-end after_line _ _ _ c.loop-i-test.false));
+      ready = at.loop-i.invariant.0;
+    }

@@ -7,7 +7,7 @@ use mir.Val.{to_z, of_z}
 use mir.Facts.{to_z-of_z}
 use Rattle.integers.specs.IntLaws.{ints, fit}
 use Rattle.integers.specs.TwosComplement.{bits_of}
-use Rattle.integers.specs.TwosComplementLaws.{bits-from-zero, bits-below-zero, bits-lt}
+use Rattle.integers.proofs.TwosComplementLaws.{bits-from-zero, bits-below-zero, bits-lt}
 use Rattle.integers.proofs.twos_complement.bits.Goals as goal
 
 pub overflow_cast-result : goal.overflow_cast-result

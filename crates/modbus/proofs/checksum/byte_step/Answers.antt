@@ -4,7 +4,7 @@ use mathlib.Core.Path.{◌≡◌, refl, sym, ◌∙◌}
 use native.Mathlib.Omega.{arith}
 use borrow.Author.Rules.{rules}
 use Rattle.modbus.specs.Crc.{byte_step, bit_steps}
-use Rattle.modbus.specs.CrcLaws.{steps_next}
+use Rattle.modbus.proofs.CrcLaws.{steps_next}
 use Rattle.modbus.proofs.checksum.byte_step.Goals as goal
 
 pub loop-k-init : goal.loop-k-init

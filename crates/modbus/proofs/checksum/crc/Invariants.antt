@@ -5,7 +5,7 @@ use native.Mathlib.Omega.{arith}
 use borrow.Author.Rules.{rules}
 use lib.ListN.{length, drop, drop_of_length-le}
 use Rattle.modbus.specs.Crc.{crc_from, crc_of}
-use Rattle.modbus.specs.CrcLaws.{crc-next}
+use Rattle.modbus.proofs.CrcLaws.{crc-next}
 use Rattle.modbus.proofs.checksum.crc.Given as goal
 
 abbrev pub invariant-loop-i : goal.invariant-loop-i

@@ -1,6 +1,6 @@
 -- Equal bits are equal words.
 use mathlib.Core.Path.{sym, ap}
-use Rattle.parameters.specs.LoadLaws.{same-yes, same-no}
+use Rattle.parameters.proofs.LoadLaws.{same-yes, same-no}
 use mir.Syntax.{w32}
 use mir.Val.{of_z}
 use Rattle.integers.specs.IntLaws.{same_bits}

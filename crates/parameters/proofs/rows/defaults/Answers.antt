@@ -6,7 +6,7 @@ use lib.IntN.{pos}
 use mir.Syntax.{w32}
 use mir.Val.{to_z, of_z}
 use Rattle.parameters.specs.Rows.{default_table}
-use Rattle.parameters.specs.RowLaws.{default-at, default-length}
+use Rattle.parameters.proofs.RowLaws.{default-at, default-length}
 use Rattle.parameters.proofs.Copy.{copy_more, copy-all}
 use borrow.Author.Rules.{rules}
 use native.Mathlib.Omega.{arith}

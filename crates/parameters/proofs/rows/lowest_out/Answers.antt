@@ -7,7 +7,7 @@ use lib.ListN.{drop, get_or, length}
 use mir.Syntax.{w32}
 use mir.Facts.{to_z-of_z}
 use Rattle.parameters.specs.Rows.{in_range, out_from}
-use Rattle.parameters.specs.RowLaws.{out-next, out-here, out_none}
+use Rattle.parameters.proofs.RowLaws.{out-next, out-here, out_none}
 use borrow.Author.Rules.{rules}
 use native.Mathlib.Omega.{arith}
 use Rattle.parameters.proofs.rows.lowest_out.Goals as goal
@@ -23,13 +23,13 @@ bounds-t-i c = omega arith
 
 pub returns-then-not-fits : goal.returns-then-not-fits
 returns-then-not-fits c =
-    let long : length c.args.t1 ≡ 104 =
+    let long : length c.args.t ≡ 104 =
     search rules in
-    let looked : in_range c.loop-i.i (get_or c.args.t1 c.loop-i.i (pos 0)) ≡ c.in_range-fits.result =
+    let looked : in_range c.loop-i.i (get_or c.args.t c.loop-i.i (pos 0)) ≡ c.in_range-fits.result =
     ap (in_range c.loop-i.i) (sym (to_z-of_z {w = w32} (record { sfits = c.in_range-arg-1.given }))) ∙ sym c.in_range-fits.ensures in
     let s = c in
     let l = c.loop-i in
-    sym (l.invariant.1 ∙ out-here s.args.t1 l.i (omega (arith, long)) (looked ∙ not-true _ c.if-not-fits.true-raw))
+    sym (l.invariant.1 ∙ out-here s.args.t l.i (omega (arith, long)) (looked ∙ not-true _ c.if-not-fits.true-raw))
 
 pub overflow_add-i : goal.overflow_add-i
 overflow_add-i c = omega arith
@@ -39,18 +39,18 @@ loop-i-smaller c = omega arith
 
 pub loop-i-preserved : goal.loop-i-preserved
 loop-i-preserved c =
-    let long : length c.args.t1 ≡ 104 =
+    let long : length c.args.t ≡ 104 =
     search rules in
-    let looked : in_range c.loop-i.i (get_or c.args.t1 c.loop-i.i (pos 0)) ≡ c.in_range-fits.result =
+    let looked : in_range c.loop-i.i (get_or c.args.t c.loop-i.i (pos 0)) ≡ c.in_range-fits.result =
     ap (in_range c.loop-i.i) (sym (to_z-of_z {w = w32} (record { sfits = c.in_range-arg-1.given }))) ∙ sym c.in_range-fits.ensures in
     let s = c in
     let l = c.loop-i in
-    (omega arith, l.invariant.1 ∙ out-next s.args.t1 l.i (omega (arith, long)) (looked ∙ not-false _ c.if-not-fits.false-raw))
+    (omega arith, l.invariant.1 ∙ out-next s.args.t l.i (omega (arith, long)) (looked ∙ not-false _ c.if-not-fits.false-raw))
 
 pub returns : goal.returns
 returns c =
-    let long : length c.args.t1 ≡ 104 =
+    let long : length c.args.t ≡ 104 =
     search rules in
     let s = c in
     let l = c.loop-i in
-    sym (l.invariant.1 ∙ out_none s.args.t1 l.i (omega (arith, long)))
+    sym (l.invariant.1 ∙ out_none s.args.t l.i (omega (arith, long)))

@@ -7,7 +7,7 @@ use lib.ListN.{drop, get_or, length}
 use mir.Syntax.{w32}
 use mir.Facts.{to_z-of_z}
 use Rattle.parameters.specs.Rows.{in_range, out_from}
-use Rattle.parameters.specs.RowLaws.{out-next, out-here, out_none}
+use Rattle.parameters.proofs.RowLaws.{out-next, out-here, out_none}
 use borrow.Author.Rules.{rules}
 use native.Mathlib.Omega.{arith}
 use Rattle.parameters.proofs.rows.lowest_out.Given as goal

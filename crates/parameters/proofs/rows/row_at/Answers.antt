@@ -2,7 +2,7 @@
 use native.Mathlib.Omega.{arith}
 use borrow.Author.Rules.{rules}
 use Rattle.parameters.specs.Rows.{row_at}
-use Rattle.parameters.specs.RowLaws.{row_below}
+use Rattle.parameters.proofs.RowLaws.{row_below}
 use Rattle.parameters.proofs.rows.row_at.Goals as goal
 
 pub offset_bounds-row_of : goal.offset_bounds-row_of

@@ -5,7 +5,7 @@ use lib.Dec.{eqb}
 use borrow.Author.Tests.{lt-ltb, le-ltb, eq-eqb, ne_eqb}
 use Rattle.text.specs.Marks.{newline}
 use Rattle.script.specs.Collector.{pushed_on}
-use Rattle.script.specs.CollectorLaws.{begun-renews}
+use Rattle.script.proofs.CollectorLaws.{begun-renews}
 use borrow.Author.Rules.{rules}
 use Rattle.script.proofs.collector.push.Goals as goal
 

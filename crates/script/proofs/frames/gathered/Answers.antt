@@ -3,8 +3,8 @@ use mathlib.Core.Path.{sym, ap, ◌∙◌}
 use native.Mathlib.Omega.{arith}
 use lib.ListN.{length}
 use Rattle.script.specs.Commands.{most_bytes, is_frame}
-use Rattle.script.specs.GatherLaws.{Left, left-all, left-hex, left-room, left-next}
-use Rattle.script.specs.FrameLaws.{bytes_packed}
+use Rattle.script.proofs.GatherLaws.{Left, left-all, left-hex, left-room, left-next}
+use Rattle.script.proofs.FrameLaws.{bytes_packed}
 use Rattle.text.specs.WordLaws.{rest-within, rest-shorter, go_on}
 use borrow.Author.Rules.{rules}
 use Rattle.script.proofs.frames.gathered.Goals as goal

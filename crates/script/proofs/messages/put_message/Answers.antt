@@ -3,7 +3,7 @@ use mathlib.Core.Path.{◌≡◌}
 use Prim.Native.Nat.{ℕ, suc, ◌≤◌}
 use native.Mathlib.Omega.{arith}
 use Rattle.script.specs.Messages.{message_of}
-use Rattle.script.specs.MessageLaws.{other-message}
+use Rattle.script.proofs.MessageLaws.{other-message}
 use borrow.Author.Rules.{rules}
 use Rattle.script.proofs.messages.put_message.Goals as goal
 

@@ -10,4 +10,4 @@ pub returns : goal.returns
 returns c = let put = c in
     let read = put in
     let start = read in
-    subst (λ (l : List ℕ). Put start.args.out.now start.args.at l put.put_bytes.result put.put_bytes.new.0) read.bytes_of-bytes.ensures put.put_bytes.ensures
+    subst (λ (l : List ℕ). Put start.args.out.now start.args.at l put.put_bytes.result put.put_bytes.new.out) read.bytes_of-bytes.ensures put.put_bytes.ensures

@@ -7,4 +7,7 @@ use Rattle.sheet.proofs.reader.answer.Goals as goal
 
 pub returns : goal.returns
 returns c = let a = c in
-    (rw (← a.held-n.ensures.0) a.line-a.ensures.is, a.line-a.ensures.text.1.0)
+    record {
+      is = rw (← a.held-n.ensures.0) a.line-a.ensures.is;
+      ready = a.line-a.ensures.text.1.0;
+    }

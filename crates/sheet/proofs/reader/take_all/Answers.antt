@@ -21,7 +21,7 @@ push-x-requires c = omega (arith, c.loop-i.invariant.2)
 
 pub take-sheet-requires : goal.take-sheet-requires
 take-sheet-requires c =
-    let whole : length c.push-x.new.0 ≡ most =
+    let whole : length c.push-x.new.bytes ≡ most =
     omega (arith, c.push-x.auto.0, c.loop-i.invariant.2) in
     (c.loop-i.invariant.0, omega (arith, whole))
 
@@ -35,7 +35,7 @@ loop-i-smaller c = omega (arith, c.loop-i-test.true)
 
 pub loop-i-preserved : goal.loop-i-preserved
 loop-i-preserved c =
-    let whole : length c.push-x.new.0 ≡ most =
+    let whole : length c.push-x.new.bytes ≡ most =
     omega (arith, c.push-x.auto.0, c.loop-i.invariant.2) in
     let push = c in
     (c.take-sheet.ensures, omega (arith, push.loop-i-test.true), whole)

@@ -13,7 +13,7 @@ use Rattle.slave.proofs.files.event_line.Goals as goal
 
 -- the places of the commands that are no line of EVENTS
 pub keys : List ℕ
-keys = 1 ∷ 2 ∷ 3 ∷ 4 ∷ 5 ∷ 6 ∷ 8 ∷ 11 ∷ []
+keys  = 1 ∷ 2 ∷ 3 ∷ 4 ∷ 5 ∷ 6 ∷ 8 ∷ 11 ∷ []
 
 others : (s : State) (c : Command) → OneOf keys (tag_of the_type c) → kept_of s false ≡ stepped_of s c
 unfolding stepped_of
@@ -32,21 +32,36 @@ others s Frame k = refl
 
 pub returns-in-Blank : goal.returns-in-Blank
 unfolding stepped_of
-returns-in-Blank c = (rw c.enum_told-1.given.1 c.kept.ensures, subst (λ (r : Stepped). Good r.state) (sym c.kept.ensures) c.requires)
+returns-in-Blank c =record {
+      is = rw c.enum_told-1.given.1 c.kept.ensures;
+      valid = subst (λ (r : Stepped). Good r.state) (sym c.kept.ensures) c.requires;
+    }
 
 pub returns-in-Telegram : goal.returns-in-Telegram
 unfolding stepped_of
-returns-in-Telegram c = (rw c.in-Telegram.is c.moved.ensures.is, c.moved.ensures.valid)
+returns-in-Telegram c =record {
+      is = rw c.in-Telegram.is c.moved.ensures.is;
+      valid = c.moved.ensures.valid;
+    }
 
 pub returns-in-Levels : goal.returns-in-Levels
 unfolding stepped_of
-returns-in-Levels c = (rw c.in-Levels.is c.moved-in-Levels.ensures.is, c.moved-in-Levels.ensures.valid)
+returns-in-Levels c =record {
+      is = rw c.in-Levels.is c.moved-in-Levels.ensures.is;
+      valid = c.moved-in-Levels.ensures.valid;
+    }
 
 pub returns-in-Tick : goal.returns-in-Tick
 unfolding stepped_of
-returns-in-Tick c = (rw c.in-Tick.is c.moved-in-Tick.ensures.is, c.moved-in-Tick.ensures.valid)
+returns-in-Tick c =record {
+      is = rw c.in-Tick.is c.moved-in-Tick.ensures.is;
+      valid = c.moved-in-Tick.ensures.valid;
+    }
 
 pub returns-in_default : goal.returns-in_default
-returns-in_default c = let s = c in
+returns-in_default c =    let s = c in
     let is = c.kept-in_default.ensures in
-    (is ∙ others s.args.s s.args.c c.match.keys5, subst (λ (r : Stepped). Good r.state) (sym is) s.requires)
+    record {
+      is = is ∙ others s.args.s s.args.c c.match.keys5;
+      valid = subst (λ (r : Stepped). Good r.state) (sym is) s.requires;
+    }

@@ -1,6 +1,6 @@
 -- `slave::files::frame` meets its contract: what is answered are the bytes held, as `registers` answers them.
 use Rattle.std.proofs.Common.{◌≡◌, length, sym, ap, arith, length-take-le, rules}
-use Rattle.framing.specs.CollectorLaws.{held-is}
+use Rattle.framing.proofs.CollectorLaws.{held-is}
 use Rattle.slave.specs.Files.{replied_by}
 use Rattle.slave.proofs.files.frame.Goals as goal
 

@@ -1,7 +1,7 @@
 -- `ssi::doubling::gray` meets its contract: the mask keeps the telegram's own bits, and five steps of exclusive or give the position.
 use borrow.Author.Rules.{rules}
 use lib.Bits.{and_mask}
-use Rattle.ssi.specs.DoublingLaws.{decoded-doubled}
+use Rattle.ssi.proofs.DoublingLaws.{decoded-doubled}
 use Rattle.ssi.proofs.doubling.gray.Goals as goal
 
 pub returns : goal.returns

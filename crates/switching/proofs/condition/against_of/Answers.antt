@@ -5,7 +5,7 @@ use mir.Syntax.{w64}
 use mir.Facts.{to_z-of_z}
 use Rattle.integers.specs.IntLaws.{ints, fit, back_at}
 use Rattle.switching.specs.Condition.{against}
-use Rattle.switching.specs.ConditionLaws.{magnitude_of-mode, signed-mode, partner-mode}
+use Rattle.switching.proofs.ConditionLaws.{magnitude_of-mode, signed-mode, partner-mode}
 use Rattle.switching.proofs.condition.against_of.Goals as goal
 
 pub overflow_cast-result : goal.overflow_cast-result

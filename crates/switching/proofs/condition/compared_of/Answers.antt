@@ -5,7 +5,7 @@ use mir.Syntax.{w64}
 use mir.Facts.{to_z-of_z}
 use Rattle.integers.specs.IntLaws.{ints, back_at}
 use Rattle.switching.specs.Condition.{compared}
-use Rattle.switching.specs.ConditionLaws.{magnitude_of-mode, signed-modes}
+use Rattle.switching.proofs.ConditionLaws.{magnitude_of-mode, signed-modes}
 use Rattle.switching.proofs.condition.compared_of.Goals as goal
 
 pub returns-then-mode-lt3 : goal.returns-then-mode-lt3

@@ -6,7 +6,7 @@ use mir.Facts.{to_z-of_z}
 use Rattle.integers.specs.Int.{Within}
 use Rattle.integers.specs.IntLaws.{size, back_at, bk}
 use Rattle.switching.specs.Condition.{compared, against, condition_of}
-use Rattle.switching.specs.ConditionLaws.{within-twice, compared-within, against-within, rule-above, rule-below, rule-near}
+use Rattle.switching.proofs.ConditionLaws.{within-twice, compared-within, against-within, rule-above, rule-below, rule-near}
 use Rattle.switching.proofs.condition.condition.Goals as goal
 
 pub on_below-requires : goal.on_below-requires

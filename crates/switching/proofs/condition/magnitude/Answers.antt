@@ -2,7 +2,7 @@
 use native.Mathlib.Omega.{arith}
 use mir.Facts.{to_z-of_z}
 use Rattle.integers.specs.IntLaws.{ints, fit}
-use Rattle.switching.specs.ConditionLaws.{magnitude_of-turn, magnitude_of-keep}
+use Rattle.switching.proofs.ConditionLaws.{magnitude_of-turn, magnitude_of-keep}
 use Rattle.switching.proofs.condition.magnitude.Goals as goal
 
 pub overflow_sub-result : goal.overflow_sub-result

@@ -9,7 +9,7 @@ use mir.Facts.{to_z-of_z, to_z_pos}
 use Rattle.integers.specs.Int.{Within}
 use Rattle.integers.specs.IntLaws.{sub_within, fits-within, mul-within, back_at, bk}
 use Rattle.switching.specs.Condition.{magnitude_of}
-use Rattle.switching.specs.ConditionLaws.{magnitude_of-within, near-is}
+use Rattle.switching.proofs.ConditionLaws.{magnitude_of-within, near-is}
 use Rattle.switching.proofs.condition.on_near.Goals as goal
 
 pub overflow_sub-r : goal.overflow_sub-r

@@ -5,7 +5,7 @@ use native.Mathlib.Omega.{arith}
 use lib.ListN.{length}
 use Rattle.text.specs.Words.{words_of}
 use Rattle.text.specs.HexList.{are_hex}
-use Rattle.text.specs.HexListLaws.{hex_from, hex-start, hex-end, hex-over, hex-other, hex-next}
+use Rattle.text.proofs.HexListLaws.{hex_from, hex-start, hex-end, hex-over, hex-other, hex-next}
 use Rattle.text.specs.WordLaws.{rest-within, rest-shorter}
 use Rattle.text.specs.WordLaws.{go_on}
 use borrow.Author.Rules.{rules}

@@ -1,7 +1,7 @@
 -- `text::hex::digit` meets its contract: a law for each range that the byte may be in.
 use mathlib.Core.Path.{sym}
 use native.Mathlib.Omega.{arith}
-use Rattle.text.specs.HexLaws.{digit_low, digit-number, digit-between, digit-upper, digit-middle, digit-lower, digit-high}
+use Rattle.text.proofs.HexLaws.{digit_low, digit-number, digit-between, digit-upper, digit-middle, digit-lower, digit-high}
 use borrow.Author.Rules.{rules}
 use Rattle.text.proofs.hex.digit.Goals as goal
 

@@ -1,6 +1,6 @@
 -- `text::hex::put` meets its contract: no bytes, or the first one and then the others, each behind a space.
 use native.Mathlib.Omega.{arith}
-use Rattle.text.specs.HexLaws.{text-none, text-some}
+use Rattle.text.proofs.HexLaws.{text-none, text-some}
 use Rattle.text.specs.PutLaws.{put-none, put_both}
 use Rattle.text.specs.WordLaws.{part-all}
 use borrow.Author.Rules.{rules}

@@ -5,7 +5,7 @@ use native.Mathlib.Omega.{arith}
 use lib.ListN.{length, take}
 use lib.Seq.{take_all, length-take-le}
 use Rattle.text.specs.Hex.{spaced_pairs}
-use Rattle.text.specs.HexLaws.{spaced-next, spaced-length}
+use Rattle.text.proofs.HexLaws.{spaced-next, spaced-length}
 use Rattle.text.specs.Put.{Put}
 use Rattle.text.specs.PutLaws.{put-none, put_both, put-length}
 use Rattle.text.proofs.hex.put_rest.Given as goal

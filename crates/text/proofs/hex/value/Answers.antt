@@ -5,7 +5,7 @@ use native.Mathlib.Omega.{arith}
 use lib.ListN.{length, get_or, drop}
 use borrow.Author.Rules.{rules}
 use Rattle.text.specs.Hex.{hex_digit, hex_from, hex_of}
-use Rattle.text.specs.HexLaws.{hex-grows, hex-fits, hex-parts}
+use Rattle.text.proofs.HexLaws.{hex-grows, hex-fits, hex-parts}
 use Rattle.text.proofs.Steps.{hex-drop, hex-last}
 use Rattle.text.proofs.hex.value.Goals as goal
 

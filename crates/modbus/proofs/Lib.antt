@@ -1,0 +1,7 @@
+-- The laws of this crate that its proofs and other crates cite, in the order in which to read them.
+pub mod Cases
+pub mod CrcLaws
+pub mod WordLaws
+pub mod WholeLaws
+pub mod RequestLaws
+pub mod RoundTripLaws

@@ -1,0 +1,137 @@
+-- A load's number is the first condition's: each number is returned in its own condition and in no other. The defaults load.
+-- Paper 01, "Where each check sits", load.
+use Rattle.std.specs.Prelude.{◌≡◌, refl, Bool, true, false, cond, List, ℕ, suc, ◌-◌, ◌<◌, ◌≤◌, eqb, ℤ, pos, negsuc, length, get_or}
+use Rattle.std.proofs.Common.{sym, ◌∙◌, ap, arith}
+use borrow.Author.Tests.{eq-eqb, ne_eqb, eqb-true, ltb-true, lt-ltb, le-ltb, not-false}
+use Rattle.parameters.specs.Rows.{lowest_out, out_from, row_of, row_at, in_range, defaults_from, default_table}
+use Rattle.parameters.proofs.RowLaws.{below-lowest, at-lowest}
+use Rattle.parameters.specs.Slots.{word_at}
+use Rattle.integers.specs.Choice.{some}
+use Rattle.parameters.specs.Search.{first_of}
+use Rattle.parameters.specs.SearchLaws.{first-least, first-own, first-only, first-none, none_first}
+use Rattle.parameters.specs.Load.{same_z, words_missing, slot_out, field_wrong, error_bit_wrong, span_empty, not_above, points_not_rising, origin_missing, frozen_by_edge, freeze_on_edge, differ, differs_from, polarities_differ, conflicts, conditions, condition, load_refusal, load_slot, refused_with, load_of}
+
+-- the test of two whole numbers tells whether they are equal
+pub same-yes : (a b : ℤ) → a ≡ b → same_z a b ≡ true
+same-yes (pos a) (pos b) e = eq-eqb a b cc
+same-yes (negsuc a) (negsuc b) e = eq-eqb a b cc
+same-yes (pos a) (negsuc b) e = cc
+same-yes (negsuc a) (pos b) e = cc
+
+pub same-no : (a b : ℤ) → (a ≡ b → ⊥) → same_z a b ≡ false
+same-no (pos a) (pos b) n = ne_eqb a b (λ e. n (ap pos e))
+same-no (negsuc a) (negsuc b) n = ne_eqb a b (λ e. n (ap negsuc e))
+same-no (pos a) (negsuc b) n = refl
+same-no (negsuc a) (pos b) n = refl
+
+pub same_true : (a b : ℤ) → same_z a b ≡ true → a ≡ b
+same_true (pos a) (pos b) e = ap pos (eqb-true a b e)
+same_true (negsuc a) (negsuc b) e = ap negsuc (eqb-true a b e)
+same_true (pos a) (negsuc b) e = cc
+same_true (negsuc a) (pos b) e = cc
+
+-- what load answers, stage by stage
+module _ (t : List ℤ) where
+  pub load-length : (length t ≡ 104 → ⊥) → load_of t ≡ refused_with 1 0
+  unfolding load_of load_slot load_refusal conditions words_missing first_of
+  load-length h = rw (ne_eqb (length t) 104 h)
+
+  pub load-range : length t ≡ 104 → lowest_out t < 104 → load_of t ≡ refused_with 2 (lowest_out t)
+  unfolding load_of load_slot load_refusal conditions words_missing slot_out first_of
+  load-range e h = rw (eq-eqb (length t) 104 e, lt-ltb (lowest_out t) 104 h)
+
+  passed : length t ≡ 104 → 104 ≤ lowest_out t → load_refusal t ≡ first_of 3 (conflicts t)
+  unfolding load_refusal conditions words_missing slot_out first_of
+  passed e h = rw (eq-eqb (length t) 104 e, le-ltb (lowest_out t) 104 h)
+
+  pub load-conflict : length t ≡ 104 → 104 ≤ lowest_out t → (first_of 3 (conflicts t) ≡ 0 → ⊥) → load_of t ≡ refused_with (first_of 3 (conflicts t)) 0
+  unfolding load_of load_slot
+  load-conflict e h n =
+      rw (passed e h, ne_eqb (first_of 3 (conflicts t)) 0 n, ne_eqb (first_of 3 (conflicts t)) 2 (λ q. omega (arith, first-least 3 (conflicts t) n)))
+
+  pub load-fine : length t ≡ 104 → 104 ≤ lowest_out t → first_of 3 (conflicts t) ≡ 0 → load_of t ≡ record { refusal = 0; slot = 0; table = t }
+  unfolding load_of
+  load-fine e h z = rw (passed e h, z)
+
+one_less : (n : ℕ) → suc n - 1 ≡ n
+one_less n = omega arith
+
+-- condition n is met and none before it is
+pub record Refused (t : List ℤ) (n : ℕ) : Type 0 where
+  pub own : condition t n ≡ true
+  pub none : (m : ℕ) → 1 ≤ m → m < n → condition t m ≡ false
+
+-- each number is returned in its own condition and in no other
+pub number-own : (t : List ℤ) (n : ℕ) → 1 ≤ n → Refused t n → load_refusal t ≡ n
+unfolding load_refusal condition
+number-own t n l r = first-own 1 (conditions t) (n - 1) (record { holds = r.own; none = before }) ∙ omega arith
+  where
+    before : (j : ℕ) → j < n - 1 → get_or (conditions t) j false ≡ false
+    before j h = rw one_less at (r.none (suc j) (omega arith) (omega arith))
+
+pub number-only : (t : List ℤ) (n : ℕ) → 1 ≤ n → load_refusal t ≡ n → Refused t n
+unfolding load_refusal condition
+number-only t n l e =
+    let f = first-only 1 (conditions t) (n - 1) (omega arith) (omega arith) in
+    record { own = f.holds; none = λ m a b. f.none (m - 1) (omega arith) }
+
+-- and a table loads exactly when it meets no condition
+pub loads-only : (t : List ℤ) → load_refusal t ≡ 0 → (n : ℕ) → condition t n ≡ false
+unfolding load_refusal condition
+loads-only t e n = first-none 1 (conditions t) (omega arith) e (n - 1)
+
+pub loads-own : (t : List ℤ) → ((n : ℕ) → 1 ≤ n → condition t n ≡ false) → load_refusal t ≡ 0
+unfolding load_refusal condition
+loads-own t h = none_first 1 (conditions t) (λ j. rw one_less at (h (suc j) (omega arith)))
+
+-- refusal 2 names the lowest slot out of range
+pub record Named (t : List ℤ) (slot : ℕ) : Type 0 where
+  pub out : in_range slot (word_at t slot) ≡ false
+  pub lowest : (k : ℕ) → k < slot → in_range k (word_at t k) ≡ true
+
+pub slot-named : (t : List ℤ) → load_refusal t ≡ 2 → Named t (load_slot t)
+unfolding load_slot condition conditions words_missing slot_out
+slot-named t e =
+    let r = number-only t 2 (omega arith) e in
+    let long : length t ≡ 104 = eqb-true (length t) 104 (not-false (eqb (length t) 104) (r.none 1 (omega arith) (omega arith))) in
+    let low : lowest_out t < 104 = ltb-true (lowest_out t) 104 r.own in
+    rw e (record { out = at-lowest t (omega arith); lowest = λ k h. below-lowest t k h (omega arith) })
+
+-- the answer has this number and this slot, and the table where it loads
+pub answer-number : (t : List ℤ) → (load_of t).refusal ≡ load_refusal t
+unfolding load_of
+answer-number t = go (eqb (load_refusal t) 0) refl
+  where
+    go : (b : Bool) → eqb (load_refusal t) 0 ≡ b → (cond b (record { refusal = 0; slot = 0; table = t }) (refused_with (load_refusal t) (load_slot t))).refusal ≡ load_refusal t
+    go true e = sym (eqb-true (load_refusal t) 0 e)
+    go false e = refl
+
+pub answer-slot : (t : List ℤ) → (load_of t).slot ≡ load_slot t
+unfolding load_of load_slot
+answer-slot t = go (eqb (load_refusal t) 0) refl
+  where
+    go : (b : Bool) → eqb (load_refusal t) 0 ≡ b → (cond b (record { refusal = 0; slot = 0; table = t }) (refused_with (load_refusal t) (load_slot t))).slot ≡ load_slot t
+    go true e = rw (eqb-true (load_refusal t) 0 e)
+    go false e = refl
+
+pub answer-table : (t : List ℤ) → load_refusal t ≡ 0 → (load_of t).table ≡ t
+unfolding load_of
+answer-table t e = rw e
+
+-- the slot that a refused load names is one of the table's
+named_small : (t : List ℤ) → load_refusal t ≡ 2 → lowest_out t < 104
+unfolding condition conditions slot_out
+named_small t e = ltb-true (lowest_out t) 104 (number-only t 2 (omega arith) e).own
+
+pub slot_small : (t : List ℤ) → (load_of t).slot ≤ 104
+unfolding load_slot
+slot_small t = rw (answer-slot t) (by (eqb (load_refusal t) 2) refl)
+  where
+    by : (b : Bool) → eqb (load_refusal t) 2 ≡ b → cond b (lowest_out t) 0 ≤ 104
+    by true e = omega (arith, named_small t (eqb-true (load_refusal t) 2 e))
+    by false e = omega arith
+
+-- the defaults load
+pub defaults-load : load_refusal default_table ≡ 0
+unfolding load_refusal conditions conflicts first_of some words_missing slot_out field_wrong error_bit_wrong span_empty not_above points_not_rising origin_missing frozen_by_edge freeze_on_edge differ differs_from polarities_differ out_from in_range row_at row_of default_table defaults_from
+defaults-load = refl

@@ -1,0 +1,3 @@
+-- The laws of this crate that its proofs and other crates cite, in the order in which to read them.
+pub mod EventLaws
+pub mod ScreenLaws

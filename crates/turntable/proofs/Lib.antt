@@ -1,0 +1,5 @@
+-- The laws of this crate that its proofs and other crates cite, in the order in which to read them.
+pub mod LoopLaws
+pub mod TravelledLaws
+pub mod TiedLaws
+pub mod AgreeLaws
