@@ -1,5 +1,5 @@
 -- Reading and writing a log undo each other. Each step is one event: its words, read, are the event, and a word that was read is the word of what it gave.
-use Rattle.std.specs.Prelude.{◌≡◌, Bool, true, false, cond, not, ℕ, ◌+◌, ◌/◌, ◌%◌, ◌^◌, ◌<◌, eqb}
+use Rattle.std.specs.Prelude.{◌≡◌, Bool, true, false, cond, not, ℕ, ◌/◌, ◌%◌, ◌^◌, ◌<◌, eqb}
 use Rattle.std.proofs.Math.Path.{refl, ap, ap₂}
 use Rattle.std.proofs.Common.{sym, ◌∙◌, arith, eqb-true}
 use mathlib.Core.List.{List, [], ◌∷◌, ◌++◌}

@@ -5,7 +5,7 @@ use mathlib.Core.Bool.{false}
 use lib.Dec.{eqb}
 use borrow.Author.Tests.{ne_eqb}
 use Rattle.events.specs.Log.{accepted_of}
-use borrow.Author.Rules.{rules}
+use native.Mathlib.Omega.{arith}
 use Rattle.events.proofs.accept.Goals as goal
 
 -- a test of the definition, from the code's, which looks at the kind k
@@ -37,7 +37,7 @@ returns-in_default c = let k = c.kind.ensures in
       c.give-in_default.ensures,
       c.telegram.ensures,
       c.half-in_default.ensures,
-      is-not k c.match.rest.0.0.1,
-      is-not k c.match.rest.0.1,
-      is-not k c.match.rest.1,
+      is-not {n = 0} k (λ e. omega (arith, e)),
+      is-not {n = 1} k (λ e. omega (arith, e)),
+      is-not {n = 2} k (λ e. omega (arith, e)),
     )

@@ -1,6 +1,5 @@
 -- `events::bytes_of` meets its contract: the definition, byte by byte.
 use mathlib.Core.Path.{refl}
-use borrow.Author.Rules.{rules}
 use Rattle.events.proofs.bytes_of.Goals as goal
 
 pub returns : goal.returns

@@ -1,5 +1,4 @@
 -- `events::give` meets its contract: no half is waiting after an event.
-use borrow.Author.Rules.{rules}
 use Rattle.events.proofs.give.Goals as goal
 
 pub returns : goal.returns

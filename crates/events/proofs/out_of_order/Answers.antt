@@ -1,5 +1,4 @@
 -- `events::out_of_order` meets its contract: each arm is one case of the definition.
-use borrow.Author.Rules.{rules}
 use Rattle.events.proofs.out_of_order.Goals as goal
 
 pub returns-then-waiting : goal.returns-then-waiting

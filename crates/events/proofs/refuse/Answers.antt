@@ -1,5 +1,4 @@
 -- `events::refuse` meets its contract: no half is waiting after a refusal.
-use borrow.Author.Rules.{rules}
 use Rattle.events.proofs.refuse.Goals as goal
 
 pub returns : goal.returns

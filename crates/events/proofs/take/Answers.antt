@@ -1,7 +1,6 @@
 -- `events::take` meets its contract: each test answers for one refusal, the reserved bits first.
 use mathlib.Core.Path.{sym, ◌∙◌}
 use Rattle.events.specs.Log.{taken_of}
-use borrow.Author.Rules.{rules}
 use Rattle.events.proofs.take.Goals as goal
 
 pub returns-then-reserved_set : goal.returns-then-reserved_set

@@ -1,5 +1,6 @@
 -- `settings::action_of` meets its contract: each arm of the match is a test of the definition.
 use borrow.Author.Tests.{ne_eqb}
+use native.Mathlib.Omega.{arith}
 use Rattle.settings.specs.Settings.{action_of}
 use Rattle.settings.proofs.action_of.Goals as goal
 
@@ -37,5 +38,5 @@ returns-in-8 c = rw c.in-8.is
 
 pub returns-in_default : goal.returns-in_default
 unfolding action_of
-returns-in_default c = let n = c.match.rest in
-    rw (ne_eqb _ _ n.0.0.0.0.0.0.0.1, ne_eqb _ _ n.0.0.0.0.0.0.1, ne_eqb _ _ n.0.0.0.0.0.1, ne_eqb _ _ n.0.0.0.0.1, ne_eqb _ _ n.0.0.0.1, ne_eqb _ _ n.0.0.1, ne_eqb _ _ n.0.1, ne_eqb _ _ n.1)
+returns-in_default c =
+    rw (ne_eqb c.args.n 1 (λ e. omega (arith, e)), ne_eqb c.args.n 2 (λ e. omega (arith, e)), ne_eqb c.args.n 3 (λ e. omega (arith, e)), ne_eqb c.args.n 4 (λ e. omega (arith, e)), ne_eqb c.args.n 5 (λ e. omega (arith, e)), ne_eqb c.args.n 6 (λ e. omega (arith, e)), ne_eqb c.args.n 7 (λ e. omega (arith, e)), ne_eqb c.args.n 8 (λ e. omega (arith, e)))

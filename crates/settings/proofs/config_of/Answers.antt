@@ -1,5 +1,6 @@
 -- `settings::config_of` meets its contract: each arm of the match is a test of the definition.
 use borrow.Author.Tests.{ne_eqb}
+use native.Mathlib.Omega.{arith}
 use Rattle.settings.specs.Settings.{config_of}
 use Rattle.settings.proofs.config_of.Goals as goal
 
@@ -17,5 +18,5 @@ returns-in-2 c = rw c.in-2.is
 
 pub returns-in_default : goal.returns-in_default
 unfolding config_of
-returns-in_default c = let n = c.match.rest in
-    rw (ne_eqb _ _ n.0.0.1, ne_eqb _ _ n.0.1, ne_eqb _ _ n.1)
+returns-in_default c =
+    rw (ne_eqb c.args.n 0 (λ e. omega (arith, e)), ne_eqb c.args.n 1 (λ e. omega (arith, e)), ne_eqb c.args.n 2 (λ e. omega (arith, e)))

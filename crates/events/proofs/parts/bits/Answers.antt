@@ -1,6 +1,5 @@
 -- `events::parts::bits` meets its contract: all ones shifted down are the mask of the bits that are kept.
 use Rattle.events.proofs.Mask.{bits_are}
-use borrow.Author.Rules.{rules}
 use Rattle.events.proofs.parts.bits.Goals as goal
 
 pub returns : goal.returns

@@ -2,7 +2,6 @@
 use borrow.Author.Tests.{eq-eqb, ne_eqb}
 use mathlib.Core.Path.{sym, ◌∙◌}
 use Rattle.events.specs.Words.{reserved_set}
-use borrow.Author.Rules.{rules}
 use Rattle.events.proofs.parts.reserved_set.Goals as goal
 
 pub returns-then-kind-eq1 : goal.returns-then-kind-eq1
