@@ -1,6 +1,6 @@
 -- `bitplanes::copy` meets its contract. The loop's invariant: d is the first i words of s and what d had behind them.
 use mathlib.Core.Path.{◌≡◌, refl, ap, ◌∙◌}
-use Prim.Native.Nat.{ℕ, ◌≤◌, ◌-◌}
+use Prim.Native.Nat.{ℕ}
 use native.Mathlib.Omega.{arith}
 use mathlib.Core.List.{List, ◌++◌}
 use borrow.Author.Rules.{rules}

@@ -1,10 +1,8 @@
 -- `bitplanes::exchange` meets its contract: the loop's invariant: the words of the first p pairs are exchanged, the others are as they were.
-use mathlib.Core.Path.{◌≡◌, subst}
-use Prim.Native.Nat.{ℕ, ◌-◌, ◌≤◌}
-use native.Mathlib.Omega.{arith}
-use borrow.Author.Rules.{rules}
+use mathlib.Core.Path.{◌≡◌}
+use Prim.Native.Nat.{◌-◌, ◌≤◌}
 use lib.ListN.{length}
-use Rattle.bitplanes.proofs.LoopLaws.{Part, part_none, part-more, part-all}
+use Rattle.bitplanes.proofs.LoopLaws.{Part}
 use Rattle.bitplanes.proofs.exchange.Given as goal
 
 abbrev pub invariant-loop-p : goal.invariant-loop-p

@@ -1,6 +1,4 @@
 -- `bitplanes::first` meets its contract: p & (w - 1) is the remainder of p by w.
-use Prim.Native.Nat.{◌-◌}
-use borrow.Author.Rules.{rules}
 use Rattle.bitplanes.proofs.LoopLaws.{first-le, first-is}
 use Rattle.bitplanes.proofs.MaskLaws.{sizes}
 use Rattle.bitplanes.proofs.first.Goals as goal

@@ -4,7 +4,6 @@ use Prim.Native.Nat.{ℕ, ◌*◌, ◌^◌, ◌%◌}
 use native.Mathlib.Nat.{mod-eq_of_lt}
 use native.Mathlib.Omega.{arith}
 use lib.Bits.{bit_xor}
-use borrow.Author.Rules.{rules}
 use Rattle.bitplanes.specs.RoundSteps.{lower_of}
 use Rattle.bitplanes.proofs.MaskLaws.{sizes}
 use Rattle.bitplanes.proofs.lower.Goals as goal

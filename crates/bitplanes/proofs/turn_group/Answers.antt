@@ -7,46 +7,46 @@ use Rattle.bitplanes.proofs.turn_group.Goals as goal
 
 pub exchange-requires : goal.exchange-requires
 unfolding mask_of
-exchange-requires c =record {
-      g_len = search rules;
-      width = by16;
-      m_value = refl;
-    }
+exchange-requires c = record {
+  g_len = search rules;
+  width = by16;
+  m_value = refl;
+}
 
 pub exchange-requires-2 : goal.exchange-requires-2
 unfolding mask_of
-exchange-requires-2 c =record {
-      g_len = search rules;
-      width = by8;
-      m_value = refl;
-    }
+exchange-requires-2 c = record {
+  g_len = search rules;
+  width = by8;
+  m_value = refl;
+}
 
 pub exchange-requires-3 : goal.exchange-requires-3
 unfolding mask_of
-exchange-requires-3 c =record {
-      g_len = search rules;
-      width = by4;
-      m_value = refl;
-    }
+exchange-requires-3 c = record {
+  g_len = search rules;
+  width = by4;
+  m_value = refl;
+}
 
 pub exchange-requires-4 : goal.exchange-requires-4
 unfolding mask_of
-exchange-requires-4 c =record {
-      g_len = search rules;
-      width = by2;
-      m_value = refl;
-    }
+exchange-requires-4 c = record {
+  g_len = search rules;
+  width = by2;
+  m_value = refl;
+}
 
 pub exchange-requires-5 : goal.exchange-requires-5
 unfolding mask_of
-exchange-requires-5 c =record {
-      g_len = search rules;
-      width = by1;
-      m_value = refl;
-    }
+exchange-requires-5 c = record {
+  g_len = search rules;
+  width = by1;
+  m_value = refl;
+}
 
 pub returns : goal.returns
-returns c =    let by1 = c in
+returns c = let by1 = c in
     let by2 = by1 in
     let by4 = by2 in
     let by8 = by4 in

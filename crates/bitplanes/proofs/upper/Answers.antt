@@ -2,7 +2,6 @@
 use mathlib.Core.Path.{sym, ap₂}
 use native.Mathlib.Nat.{mod-eq_of_lt}
 use lib.Bits.{bit_xor}
-use borrow.Author.Rules.{rules}
 use Rattle.bitplanes.specs.RoundSteps.{upper_of}
 use Rattle.bitplanes.proofs.upper.Goals as goal
 
