@@ -1,5 +1,4 @@
 -- `reading::accepts` meets its contract: the layout of a valid table is sound.
-use borrow.Author.Rules.{rules}
 use Rattle.settings.specs.SettingsLaws.{layout-sound}
 use Rattle.reading.specs.Reading.{accepts_of}
 use Rattle.reading.proofs.accepts.Goals as goal

@@ -1,5 +1,4 @@
 -- `reading::basis_by` meets its contract: the position after direction without a round loop, else held under error 3, else followed.
-use borrow.Author.Rules.{rules}
 use borrow.Author.Tests.{eq-eqb, ne_eqb}
 use mathlib.Core.Path.{◌≡◌}
 use mathlib.Core.Bool.{true, false}

@@ -1,5 +1,4 @@
 -- `reading::count_after` meets its contract: counted on where there is a count, else started.
-use borrow.Author.Rules.{rules}
 use mathlib.Core.Path.{◌≡◌}
 use mathlib.Core.Bool.{true, false}
 use Rattle.reading.specs.Follow.{count_after}

@@ -1,5 +1,4 @@
 -- `reading::driven` meets its contract: without an error the drive of the code, which fits its format, else off.
-use borrow.Author.Rules.{rules}
 use borrow.Author.Tests.{eq-eqb, ne_eqb}
 use mathlib.Core.Path.{sym, ◌∙◌}
 use mir.Facts.{to_z-of_z}

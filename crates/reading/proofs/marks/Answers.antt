@@ -1,5 +1,4 @@
 -- `reading::marks` meets its contract: without an error the worth of each rounding's own mark, added, else 0.
-use borrow.Author.Rules.{rules}
 use borrow.Author.Tests.{eq-eqb, ne_eqb}
 use mathlib.Core.Bool.{Bool, true, false}
 use mathlib.Core.Path.{sym, ◌∙◌}

@@ -1,5 +1,4 @@
 -- `reading::read` meets its contract: scaling and points of a valid table are sound.
-use borrow.Author.Rules.{rules}
 use Rattle.settings.specs.SettingsLaws.{scaling-sound}
 use Rattle.reading.specs.ReadingWay.{marked_by_lem}
 use Rattle.reading.proofs.read.Goals as goal
