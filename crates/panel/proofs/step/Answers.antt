@@ -7,8 +7,8 @@ use Rattle.panel.proofs.step.Goals as goal
 pub returns : goal.returns
 unfolding answer_of
 returns c = let a = c.advance-x in
-    let is = c.answered.ensures ∙ a.ensures.0 in
+    let is = c.answered.ensures ∙ a.ensures.is in
     record {
       is = is;
-      valid = rw c.answered.ensures a.ensures.1;
+      valid = rw c.answered.ensures a.ensures.valid;
     }
