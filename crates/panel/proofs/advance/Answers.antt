@@ -1,5 +1,4 @@
 -- `panel::advance` meets its contract: switching and display follow where the event has them, and a step keeps the state valid.
-use borrow.Author.Rules.{rules}
 use mathlib.Core.Bool.{true}
 use mathlib.Core.List.{List}
 use mathlib.Core.Path.{◌≡◌, sym, subst, ap, ◌∙◌}

@@ -1,5 +1,4 @@
 -- `panel::on_levels` meets its contract: refused it leaves the old values, else what the commands leave, with the new levels and the marks of a reset.
-use borrow.Author.Rules.{rules}
 use borrow.Author.Tests.{lt-leb, le-leb}
 use Rattle.panel.specs.Step.{on_levels, switched_of, displayed_of}
 use Rattle.panel.proofs.on_levels.Goals as goal

@@ -1,5 +1,4 @@
 -- `panel::step` meets its contract: it advances a copy of the table, and the answer is that of what is left.
-use borrow.Author.Rules.{rules}
 use mathlib.Core.Path.{◌∙◌}
 use Rattle.panel.specs.Step.{answer_of}
 use Rattle.panel.proofs.step.Goals as goal
