@@ -1,6 +1,6 @@
 // Serves frames by `registers::answer` again and again, for bench/run to time, and prints a sum over all answers.
 // Standard input: a table as panelrun has it, then frames, each behind its length of 2 bytes, lowest first; at most 512 KiB of them. Argument: how often they are served.
-// Uses `registers` for the answers to `modbus` frames on the values of `state`, `logrun` for the table, `decimal` for the argument, and `os`, `io` and `libc` to read and write.
+// Uses `registers` for the answers to `modbus` frames on the values of `state`, `logrun` for the table, `decimal` for the argument, and `ports` to read and write.
 #![tactic(auto)]
 
 ghost use Rattle.std.specs.Prelude.{◌≡◌, ◌≤◌, length};
@@ -8,10 +8,10 @@ ghost use Rattle.state.specs.State.{state_of};
 ghost use Rattle.state.specs.Valid.{Good};
 
 use decimal::Parsed;
-use libc::{STDIN_FILENO, STDOUT_FILENO};
 use modbus::replies::Reply;
 use modbus::words;
 use state::{Live, State};
+use std::env::Env;
 
 // The node that serves.
 const NODE: u8 = 1;
@@ -109,9 +109,9 @@ fn repeated(s: State, frames: &[u8], rounds: u64) -> u64
 }
 
 // The argument as a number, 0 where it is none.
-fn rounds() -> u64 {
+fn rounds<E: Env>(env: &E) -> u64 {
     let mut word = [0u8; 32];
-    let n = os::arg(1, &mut word);
+    let n = ports::arg(env, 1, &mut word);
     match decimal::parse(&word[..n]) {
         Parsed::Number(z) => unsigned(z),
         Parsed::Malformed => 0,
@@ -126,13 +126,16 @@ fn unsigned(z: i64) -> u64 {
     z as u64
 }
 
-fn main() {
+fn main(rt: HostRuntime) {
+    let mut input = rt.stdin();
+    let mut output = rt.stdout();
     let mut table = [0u8; 416];
-    let n = io::read_full(STDIN_FILENO, &mut table);
+    let n = ports::read_full(&mut input, &mut table);
     let l = logrun::load(&table[..n]);
     let mut frames = frame_room();
-    let m = io::read_full(STDIN_FILENO, &mut frames);
+    let m = ports::read_full(&mut input, &mut frames);
     let s = l.state;
-    io::print_decimal(STDOUT_FILENO, repeated(s, &frames[..m], rounds()));
-    io::write_all(STDOUT_FILENO, b"\n");
+    let sum = repeated(s, &frames[..m], rounds(&rt));
+    ports::print_decimal(&mut output, sum);
+    ports::write_all(&mut output, b"\n");
 }

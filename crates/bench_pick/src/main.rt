@@ -1,14 +1,14 @@
 // Steps of a dispatcher again and again, for bench/run to time, and a sum over what they answer (paper 02, K12).
 // Standard input: steps of 2 bytes, kind and address, at most 4,096; a single byte that is left over is left out. Kind 0 is a pick, 1 a join, 2 a report of none, 3 a report of an error; another does nothing.
 // The first 64 steps are run once, those behind them as often as the argument says.
-// Uses `dispatcher` for the steps, `decimal` for the argument, and `os`, `io` and `libc` to read and write.
+// Uses `dispatcher` for the steps, `decimal` for the argument, and `ports` to read and write.
 #![tactic(auto)]
 
 ghost use Rattle.std.specs.Prelude.{◌≤◌};
 
 use decimal::Parsed;
 use dispatcher::{Answer, Choice, Dispatcher};
-use libc::{STDIN_FILENO, STDOUT_FILENO};
+use std::env::Env;
 
 // The bytes of the steps that are run once.
 const FIRST: usize = 128;
@@ -96,9 +96,9 @@ fn repeated(r: Run, bytes: &[u8], rounds: u64) -> Run {
 }
 
 // The argument as a number, 0 where it is none.
-fn rounds() -> u64 {
+fn rounds<E: Env>(env: &E) -> u64 {
     let mut word = [0u8; 32];
-    let n = os::arg(1, &mut word);
+    let n = ports::arg(env, 1, &mut word);
     match decimal::parse(&word[..n]) {
         Parsed::Number(z) => unsigned(z),
         Parsed::Malformed => 0,
@@ -135,9 +135,12 @@ fn timed(bytes: &[u8], rounds: u64) -> u64 {
     last.sum
 }
 
-fn main() {
+fn main(rt: HostRuntime) {
+    let mut input = rt.stdin();
+    let mut output = rt.stdout();
     let mut bytes = [0u8; 8192];
-    let n = io::read_full(STDIN_FILENO, &mut bytes);
-    io::print_decimal(STDOUT_FILENO, timed(&bytes[..n], rounds()));
-    io::write_all(STDOUT_FILENO, b"\n");
+    let n = ports::read_full(&mut input, &mut bytes);
+    let sum = timed(&bytes[..n], rounds(&rt));
+    ports::print_decimal(&mut output, sum);
+    ports::write_all(&mut output, b"\n");
 }

@@ -1,12 +1,12 @@
 // Turns words by `bitplanes::turn` again and again, there and back, for bench/run to time, and prints a sum over what is left at the end.
 // Standard input: words of 4 bytes, the lowest first, at most 4,096; what is behind them is left out. Argument: how often they are turned there and back.
-// Uses `bitplanes` for the turning, `events` for the words, `decimal` for the argument, and `os`, `io` and `libc` to read and write.
+// Uses `bitplanes` for the turning, `events` for the words, `decimal` for the argument, and `ports` to read and write.
 #![tactic(auto)]
 
 ghost use Rattle.std.specs.Prelude.{◌≡◌, ◌*◌, ◌≤◌, length};
 
 use decimal::Parsed;
-use libc::{STDIN_FILENO, STDOUT_FILENO};
+use std::env::Env;
 
 // Room for the bytes.
 fn byte_room() -> [u8; 16384]
@@ -70,9 +70,9 @@ fn sum_of(words: &[u32]) -> u64 {
 }
 
 // The argument as a number, 0 where it is none.
-fn rounds() -> u64 {
+fn rounds<E: Env>(env: &E) -> u64 {
     let mut word = [0u8; 32];
-    let n = os::arg(1, &mut word);
+    let n = ports::arg(env, 1, &mut word);
     match decimal::parse(&word[..n]) {
         Parsed::Number(z) => unsigned(z),
         Parsed::Malformed => 0,
@@ -97,11 +97,14 @@ fn timed(bytes: &[u8], x: &mut [u32], y: &mut [u32], rounds: u64) -> u64
     mixed(sum_of(&y[..n]), last)
 }
 
-fn main() {
+fn main(rt: HostRuntime) {
+    let mut input = rt.stdin();
+    let mut output = rt.stdout();
     let mut bytes = byte_room();
-    let n = io::read_full(STDIN_FILENO, &mut bytes);
+    let n = ports::read_full(&mut input, &mut bytes);
     let mut x = word_room();
     let mut y = word_room();
-    io::print_decimal(STDOUT_FILENO, timed(&bytes[..n], &mut x, &mut y, rounds()));
-    io::write_all(STDOUT_FILENO, b"\n");
+    let sum = timed(&bytes[..n], &mut x, &mut y, rounds(&rt));
+    ports::print_decimal(&mut output, sum);
+    ports::write_all(&mut output, b"\n");
 }

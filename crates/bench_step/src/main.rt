@@ -1,7 +1,7 @@
 // Runs the events of a log through `panel::advance` again and again, for bench/run to time, and prints a sum over all answers.
 // Standard input: an input of panelrun with at most 8,192 words of log. Argument: how often the log is run.
 // Uses `logrun` and `events` to read the input, `panel` for the steps on the values of `state`, `runs` for the words that stand for events, `measurement` and `analog` for error and drive, `driverecord` for the record,
-// `decimal` for the argument, and `os`, `io` and `libc` to read and write.
+// `decimal` for the argument, and `ports` to read and write.
 #![tactic(auto)]
 
 ghost use Rattle.std.specs.Prelude.{◌*◌, ◌≤◌, length};
@@ -13,8 +13,8 @@ use analog::Drive;
 use decimal::Parsed;
 use driverecord::DriveRecord;
 use events::{Event, Taken};
-use libc::{STDIN_FILENO, STDOUT_FILENO};
 use state::{Live, Outcome, State};
+use std::env::Env;
 
 // The word that stands for an event.
 fn word_of(e: Event) -> u64 {
@@ -169,9 +169,9 @@ fn repeated(s: State, words: &[u64], rounds: u64) -> u64
 }
 
 // The argument as a number, 0 where it is none.
-fn rounds() -> u64 {
+fn rounds<E: Env>(env: &E) -> u64 {
     let mut word = [0u8; 32];
-    let n = os::arg(1, &mut word);
+    let n = ports::arg(env, 1, &mut word);
     match decimal::parse(&word[..n]) {
         Parsed::Number(z) => unsigned(z),
         Parsed::Malformed => 0,
@@ -186,15 +186,18 @@ fn unsigned(z: i64) -> u64 {
     z as u64
 }
 
-fn main() {
+fn main(rt: HostRuntime) {
+    let mut input = rt.stdin();
+    let mut output = rt.stdout();
     let mut table = [0u8; 416];
-    let n = io::read_full(STDIN_FILENO, &mut table);
+    let n = ports::read_full(&mut input, &mut table);
     let l = logrun::load(&table[..n]);
     let mut log = [0u8; 32768];
-    let m = io::read_full(STDIN_FILENO, &mut log);
+    let m = ports::read_full(&mut input, &mut log);
     let mut words = [0u64; 8192];
     let count = collect(&log[..m], &mut words);
     let s = l.state;
-    io::print_decimal(STDOUT_FILENO, repeated(s, &words[..count], rounds()));
-    io::write_all(STDOUT_FILENO, b"\n");
+    let sum = repeated(s, &words[..count], rounds(&rt));
+    ports::print_decimal(&mut output, sum);
+    ports::write_all(&mut output, b"\n");
 }

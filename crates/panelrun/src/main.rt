@@ -1,12 +1,12 @@
 // Runs a log: table and log from standard input, lines to standard output, in pieces of fixed size.
-// Uses `logrun` for all that is printed, and `io` and `libc` to read and write.
+// Uses `logrun` for all that is printed, and `ports` to read and write.
 #![tactic(auto)]
 
 ghost use Rattle.std.specs.Prelude.{◌≡◌, length};
 ghost use Rattle.logrun.specs.Progress.{Ready};
 
-use libc::{STDIN_FILENO, STDOUT_FILENO};
 use logrun::Progress;
+use std::io::{Read, Write};
 
 // The bytes of a piece of the log, whole words.
 const PIECE: usize = 8192;
@@ -26,7 +26,7 @@ fn input_room() -> [u8; 8192]
 }
 
 // Runs the log to its end, a piece a turn. The turns are counted down from a number that no log uses up.
-fn run(p: Progress)
+fn run<R: Read, W: Write>(p: Progress, reader: &mut R, writer: &mut W)
     requires { Ready p }
 {
     let mut q = p;
@@ -34,10 +34,10 @@ fn run(p: Progress)
     let mut output = output_room();
     let mut turns = u64::MAX;
     while turns > 0 {
-        let n = io::read_full(STDIN_FILENO, &mut input);
+        let n = ports::read_full(reader, &mut input);
         let r = logrun::run_piece(q, &input[..n], PIECE, &mut output);
         let end = r.end;
-        if !(io::write_all(STDOUT_FILENO, &output[..end]) & r.more) {
+        if !(ports::write_all(writer, &output[..end]) & r.more) {
             return;
         }
         q = r.progress;
@@ -45,15 +45,17 @@ fn run(p: Progress)
     }
 }
 
-fn main() {
+fn main(rt: HostRuntime) {
+    let mut reader = rt.stdin();
+    let mut writer = rt.stdout();
     let mut table = [0u8; 416];
-    let n = io::read_full(STDIN_FILENO, &mut table);
+    let n = ports::read_full(&mut reader, &mut table);
     let mut line = [0u8; 128];
     let o = logrun::open(&table[..n], &mut line);
     let end = o.end;
-    io::write_all(STDOUT_FILENO, &line[..end]);
+    ports::write_all(&mut writer, &line[..end]);
     if o.loaded {
         let p = o.progress;
-        run(p);
+        run(p, &mut reader, &mut writer);
     }
 }

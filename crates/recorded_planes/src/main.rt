@@ -1,10 +1,10 @@
 // Lists of the lengths that were recorded from the model in tools/model: turned, turned again, and refused. What it prints is compared with the model's text.
-// Uses `bitplanes` for the turning, and `io` and `libc` to write.
+// Uses `bitplanes` for the turning, and `ports` to write.
 #![tactic(auto)]
 
 ghost use Rattle.std.specs.Prelude.{◌≡◌, ◌+◌, ◌≤◌, length};
 
-use libc::STDOUT_FILENO;
+use std::io::Write;
 
 // What every word of an output holds before.
 const BEFORE: u32 = 0xc0ff_ee00;
@@ -54,81 +54,104 @@ fn untouched(words: &[u32]) -> usize {
 }
 
 // A word in eight hex digits.
-fn print_word(word: u32) {
-    io::print_hex(STDOUT_FILENO, word as u64, 8);
+fn print_word<W: Write>(word: u32, printer: &mut W) {
+    ports::print_hex_8(printer, word as u64);
 }
 
 // Words, eight a line.
-fn print_words(words: &[u32]) {
+fn print_words<W: Write>(words: &[u32], printer: &mut W) {
     let mut i: usize = 0;
     while i < words.len() {
-        print_word(words[i]);
+        print_word(words[i], printer);
         i += 1;
         if (i % 8 == 0) | (i == words.len()) {
-            io::write_all(STDOUT_FILENO, b"\n");
+            ports::write_all(printer, b"\n");
         } else {
-            io::write_all(STDOUT_FILENO, b" ");
+            ports::write_all(printer, b" ");
         }
     }
 }
 
 // A word of text, a number, and the end of the line.
-fn print_line(text: &[u8], n: u64) {
-    io::write_all(STDOUT_FILENO, text);
-    io::print_decimal(STDOUT_FILENO, n);
-    io::write_all(STDOUT_FILENO, b"\n");
+fn print_line<W: Write>(text: &[u8], n: u64, printer: &mut W) {
+    ports::write_all(printer, text);
+    ports::print_decimal(printer, n);
+    ports::write_all(printer, b"\n");
 }
 
 // What an output that is shorter by one word is left as.
-fn refused(input: &[u32], output: &mut [u32]) {
+fn refused<W: Write>(input: &[u32], output: &mut [u32], printer: &mut W) {
     clear(output);
-    print_line(b"short ", bitplanes::turn(input, output) as u64);
+    print_line(b"short ", bitplanes::turn(input, output) as u64, printer);
     let n = untouched(output);
     if n == output.len() {
-        io::print_decimal(STDOUT_FILENO, n as u64);
-        io::write_all(STDOUT_FILENO, b" words as they were\n");
+        ports::print_decimal(printer, n as u64);
+        ports::write_all(printer, b" words as they were\n");
     } else {
-        io::write_all(STDOUT_FILENO, b"written\n");
+        ports::write_all(printer, b"written\n");
     }
 }
 
 // A list of n words: turned into an output with two words more, and turned again.
-fn turned(n: usize, input: &mut [u32], output: &mut [u32], again: &mut [u32])
+fn turned<W: Write>(
+    n: usize,
+    input: &mut [u32],
+    output: &mut [u32],
+    again: &mut [u32],
+    printer: &mut W,
+)
     requires { (length input.old ≡ n) × ((length output.old ≡ n + 2) × (length again.old ≡ n + 2)) }
 {
-    print_line(b"length ", n as u64);
+    print_line(b"length ", n as u64, printer);
     put_list(input);
-    io::write_all(STDOUT_FILENO, b"input\n");
-    print_words(input);
+    ports::write_all(printer, b"input\n");
+    print_words(input, printer);
     clear(output);
-    print_line(b"turned ", bitplanes::turn(input, output) as u64);
-    print_words(output);
+    print_line(b"turned ", bitplanes::turn(input, output) as u64, printer);
+    print_words(output, printer);
     clear(again);
-    print_line(b"again ", bitplanes::turn(&output[..n], again) as u64);
-    print_words(again);
+    print_line(
+        b"again ",
+        bitplanes::turn(&output[..n], again) as u64,
+        printer,
+    );
+    print_words(again, printer);
 }
 
 // A case of n words.
-fn case(n: usize, input: &mut [u32], output: &mut [u32], again: &mut [u32])
+fn case<W: Write>(
+    n: usize,
+    input: &mut [u32],
+    output: &mut [u32],
+    again: &mut [u32],
+    printer: &mut W,
+)
     requires { (n ≤ 1000) × ((1002 ≡ length input.old) × ((1002 ≡ length output.old) × (1002 ≡ length again.old))) }
 {
     let end = n + 2;
-    turned(n, &mut input[..n], &mut output[..end], &mut again[..end]);
+    turned(
+        n,
+        &mut input[..n],
+        &mut output[..end],
+        &mut again[..end],
+        printer,
+    );
     if n > 0 {
         let short = n - 1;
-        refused(&input[..n], &mut output[..short]);
+        refused(&input[..n], &mut output[..short], printer);
     }
 }
 
-fn main() {
+fn main(rt: HostRuntime) {
+    let mut printer = rt.stdout();
     let mut input = room();
     let mut output = room();
     let mut again = room();
-    case(0, &mut input, &mut output, &mut again);
-    case(1, &mut input, &mut output, &mut again);
-    case(31, &mut input, &mut output, &mut again);
-    case(32, &mut input, &mut output, &mut again);
-    case(33, &mut input, &mut output, &mut again);
-    case(64, &mut input, &mut output, &mut again);
-    case(1000, &mut input, &mut output, &mut again);
+    case(0, &mut input, &mut output, &mut again, &mut printer);
+    case(1, &mut input, &mut output, &mut again, &mut printer);
+    case(31, &mut input, &mut output, &mut again, &mut printer);
+    case(32, &mut input, &mut output, &mut again, &mut printer);
+    case(33, &mut input, &mut output, &mut again, &mut printer);
+    case(64, &mut input, &mut output, &mut again, &mut printer);
+    case(1000, &mut input, &mut output, &mut again, &mut printer);
 }

@@ -1,6 +1,6 @@
 // poller over sessions recorded from the model. Uses `poll_terminal`.
 #![tactic(auto)]
 
-fn main() {
-    poll_terminal::run();
+fn main(rt: HostRuntime) {
+    poll_terminal::run(&mut rt.stdin(), &mut rt.stdout());
 }

@@ -1,5 +1,5 @@
 // Telegrams as the recorder stores them: bytes, 4 a word and the lowest first, each full group of 32 words turned into its bit planes.
-// Uses `bitplanes` for the turning, `events` for words and their bytes, and `bytes` for a copy.
+// Uses `bitplanes` for the turning and `events` for words and their bytes.
 #![tactic(auto)]
 
 ghost use Rattle.std.specs.Prelude.{◌≡◌, ◌*◌, length};

@@ -1,11 +1,11 @@
 // The language of the gate's runs: one line in, what it prints out, and what is kept between lines. The meaning of a line is one definition, `Sheet`.
 // Uses `script` for lines that console has too, `logrun` for runs, `panel`, `settings` and `ssi` for questions, `lines` and `text` for what is written;
-// `io` and `libc` to read and write.
+// `ports` to read and write.
 #![tactic(auto)]
 
 mod log_words; // log_words.rt: the words of a log, and a table, as bytes
 mod orders; // orders.rt: the word that a line begins with
-pub mod reader; // reader.rt: lines from standard input
+pub mod reader; // reader.rt: lines from an input
 
 ghost use Rattle.std.specs.Prelude.{◌≡◌, ◌+◌, ◌*◌, ◌≤◌, eqb, length, take};
 ghost use Rattle.lines.specs.LineLaws.{longest};

@@ -1,13 +1,13 @@
-// Lines from standard input, and what they print to standard output. Uses `script` for the lines of the input, and `io` and `libc` to read and write.
+// Lines from an input, and what they print to an output. Uses `script` for the lines of the input, and `ports` to read and write.
 ghost use Rattle.std.specs.Prelude.{◌≡◌, ◌≤◌, length};
 ghost use Rattle.logrun.specs.Progress.{Ready};
 ghost use Rattle.script.specs.Collector.{most, collected, line_of};
 ghost use Rattle.sheet.specs.Sheet.{after_line};
 
 use crate::Sheet;
-use libc::{STDIN_FILENO, STDOUT_FILENO};
 use script::collector;
 use script::collector::{Collector, Extent};
+use std::io::{Read, Write};
 
 // What is kept between pieces of the input.
 #[derive(Clone, Copy)]
@@ -28,7 +28,7 @@ fn output_room() -> [u8; 12928]
 }
 
 // A line that has ended: what it prints is written.
-fn answer(s: Sheet, bytes: &[u8], x: Extent) -> Sheet
+fn answer<W: Write>(s: Sheet, bytes: &[u8], x: Extent, output: &mut W) -> Sheet
     requires { Ready s.progress × (most ≤ length bytes.now) }
     ensures is { result ≡ after_line s (line_of (collected bytes.now x)) }
     ensures ready { Ready result.progress }
@@ -37,23 +37,23 @@ fn answer(s: Sheet, bytes: &[u8], x: Extent) -> Sheet
     let mut out = output_room();
     let a = crate::line(s, &bytes[..n], &mut out);
     let end = a.end;
-    io::write_all(STDOUT_FILENO, &out[..end]);
+    ports::write_all(output, &out[..end]);
     a.sheet
 }
 
 // What is kept behind a byte: a line that it ends is answered.
-fn take(s: Sheet, bytes: &[u8], x: Extent) -> Sheet
+fn take<W: Write>(s: Sheet, bytes: &[u8], x: Extent, output: &mut W) -> Sheet
     requires { Ready s.progress × (most ≤ length bytes.now) }
     ensures { Ready result.progress }
 {
     if x.ended {
-        return answer(s, bytes, x);
+        return answer(s, bytes, x, output);
     }
     s
 }
 
 // The bytes of a piece of the input.
-fn take_all(s: Sheet, l: Collector, bytes: &[u8]) -> Reader
+fn take_all<W: Write>(s: Sheet, l: Collector, bytes: &[u8], output: &mut W) -> Reader
     requires { Ready s.progress }
     ensures { Ready result.sheet.progress }
 {
@@ -63,7 +63,7 @@ fn take_all(s: Sheet, l: Collector, bytes: &[u8]) -> Reader
     let mut i: usize = 0;
     while i < bytes.len() {
         x = collector::push(&mut held, x, bytes[i]);
-        sheet = take(sheet, &held, x);
+        sheet = take(sheet, &held, x, output);
         i += 1;
     }
     Reader {
@@ -74,14 +74,14 @@ fn take_all(s: Sheet, l: Collector, bytes: &[u8]) -> Reader
 }
 
 // The end of the input: a last line without a newline counts too.
-fn finish(s: Sheet, l: Collector) -> Reader
+fn finish<W: Write>(s: Sheet, l: Collector, output: &mut W) -> Reader
     requires { Ready s.progress }
     ensures { Ready result.sheet.progress }
 {
     if collector::pending(l) {
         let bytes = l.bytes;
         return Reader {
-            sheet: answer(s, &bytes, collector::extent_of(l)),
+            sheet: answer(s, &bytes, collector::extent_of(l), output),
             collector: l,
             more: false,
         };
@@ -94,26 +94,25 @@ fn finish(s: Sheet, l: Collector) -> Reader
 }
 
 // Reads what is there and answers the lines that end in it.
-fn take_turn(s: Sheet, l: Collector) -> Reader
+fn take_turn<R: Read, W: Write>(s: Sheet, l: Collector, input: &mut R, output: &mut W) -> Reader
     requires { Ready s.progress }
     ensures { Ready result.sheet.progress }
 {
     let mut buffer = [0u8; 4096];
-    let got = libc::read(STDIN_FILENO, &mut buffer);
-    if got <= 0 {
-        return finish(s, l);
+    let n = ports::read_some(input, &mut buffer);
+    if n == 0 {
+        return finish(s, l, output);
     }
-    let n = io::count(got, &buffer);
-    take_all(s, l, &buffer[..n])
+    take_all(s, l, &buffer[..n], output)
 }
 
 // Answers all lines of the input. The turns are counted down from a number that no input uses up.
-pub fn run() {
+pub fn run<R: Read, W: Write>(input: &mut R, output: &mut W) {
     let mut sheet = crate::fresh();
     let mut collector = collector::fresh();
     let mut turns = u64::MAX;
     while turns > 0 {
-        let t = take_turn(sheet, collector);
+        let t = take_turn(sheet, collector, input, output);
         if !t.more {
             return;
         }

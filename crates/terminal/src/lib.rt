@@ -1,5 +1,5 @@
-// A dialog over standard input and output: lines are read as they come, and each is answered before the next input is waited for.
-// Uses `dialog` for all that is said, `script` for the lines of the input, and `io` and `libc` to read and write.
+// A dialog over an input and an output: lines are read as they come, and each is answered before the next input is waited for.
+// Uses `dialog` for all that is said, `script` for the lines of the input, and `ports` to read and write.
 #![tactic(auto)]
 
 ghost use Rattle.std.specs.Prelude.{◌≡◌, ◌≤◌, length};
@@ -8,9 +8,9 @@ ghost use Rattle.script.specs.Collector.{most, collected};
 ghost use Rattle.script.specs.Talk.{answered_of, answered_at, talked_all};
 
 use dialog::Console;
-use libc::{STDIN_FILENO, STDOUT_FILENO};
 use script::collector;
 use script::collector::{Collector, Extent};
+use std::io::{Read, Write};
 
 // The dialog, and the line that has not ended yet.
 #[derive(Clone, Copy)]
@@ -31,7 +31,7 @@ struct Heard {
 }
 
 // A line that has ended: it is answered.
-fn answer(c: Console, bytes: &[u8], x: Extent) -> Console
+fn answer<W: Write>(c: Console, bytes: &[u8], x: Extent, output: &mut W) -> Console
     requires { Ready c × (most ≤ length bytes.now) }
     ensures is { result ≡ answered_of after_line c (collected bytes.now x) }
     ensures ready { Ready result }
@@ -40,24 +40,24 @@ fn answer(c: Console, bytes: &[u8], x: Extent) -> Console
     let mut out = [0u8; 128];
     let s = dialog::line(c, &bytes[..n], &mut out);
     let end = s.end;
-    io::write_all(STDOUT_FILENO, &out[..end]);
+    ports::write_all(output, &out[..end]);
     s.console
 }
 
 // What is kept behind a byte: a line that it ends is answered.
-fn take(c: Console, bytes: &[u8], x: Extent) -> Console
+fn take<W: Write>(c: Console, bytes: &[u8], x: Extent, output: &mut W) -> Console
     requires { Ready c × (most ≤ length bytes.now) }
     ensures is { result ≡ answered_at after_line c (collected bytes.now x) }
     ensures ready { Ready result }
 {
     if x.ended {
-        return answer(c, bytes, x);
+        return answer(c, bytes, x, output);
     }
     c
 }
 
 // The bytes of a piece of the input.
-fn take_all(t: Talk, bytes: &[u8]) -> Talk
+fn take_all<W: Write>(t: Talk, bytes: &[u8], output: &mut W) -> Talk
     requires { Ready t.console }
     ensures is { (result.console, result.collector) ≡ talked_all after_line (t.console, t.collector) bytes.now }
     ensures ready { Ready result.console }
@@ -69,7 +69,7 @@ fn take_all(t: Talk, bytes: &[u8]) -> Talk
     let mut i: usize = 0;
     while i < bytes.len() {
         x = collector::push(&mut held, x, bytes[i]);
-        c = take(c, &held, x);
+        c = take(c, &held, x, output);
         i += 1;
     }
     Talk {
@@ -79,49 +79,48 @@ fn take_all(t: Talk, bytes: &[u8]) -> Talk
 }
 
 // The end of the input: a last line without a newline counts too.
-fn finish(t: Talk)
+fn finish<W: Write>(t: Talk, output: &mut W)
     requires { Ready t.console }
 {
     let l = t.collector;
     if collector::pending(l) {
         let c = t.console;
         let bytes = l.bytes;
-        answer(c, &bytes, collector::extent_of(l));
+        answer(c, &bytes, collector::extent_of(l), output);
     }
 }
 
 // Reads what is there and answers the lines that end in it.
-fn hear(t: Talk) -> Heard
+fn hear<R: Read, W: Write>(t: Talk, input: &mut R, output: &mut W) -> Heard
     requires { Ready t.console }
     ensures { Ready result.talk.console }
 {
     let mut buffer = [0u8; 4096];
-    let got = libc::read(STDIN_FILENO, &mut buffer);
-    if got <= 0 {
+    let n = ports::read_some(input, &mut buffer);
+    if n == 0 {
         return Heard {
             talk: t,
             more: false,
         };
     }
-    let n = io::count(got, &buffer);
     Heard {
-        talk: take_all(t, &buffer[..n]),
+        talk: take_all(t, &buffer[..n], output),
         more: true,
     }
 }
 
 // Runs a dialog to the end of the input. The pieces of the input are counted down from a number that no input uses up.
-pub fn run() {
+pub fn run<R: Read, W: Write>(input: &mut R, output: &mut W) {
     let mut t = Talk {
         console: dialog::fresh(),
         collector: collector::fresh(),
     };
     let mut pieces = u64::MAX;
     while pieces > 0 {
-        let u = hear(t);
+        let u = hear(t, input, output);
         t = u.talk;
         if !u.more {
-            finish(t);
+            finish(t, output);
             return;
         }
         pieces -= 1;

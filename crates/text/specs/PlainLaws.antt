@@ -35,6 +35,7 @@ parts-word (b ∷ w) s e = rw (ne_eqb b space (λ q. omega (arith, plain_byte b 
 -- WORDS PARTED BY ONE SPACE ARE FOUND AGAIN
 pub words_back : (ws : List (List ℕ)) → Words ws → words_of (spoken ws) ≡ ws
 unfolding words_of spoken
+words_back [] x = elim x [ ]
 words_back (w ∷ []) (last p) = ap filled (parts-alone w p.all) ∙ filled-word w [] p.some
 words_back (w ∷ (v ∷ ws)) (more p r) =
     ap filled (parts-word w (spoken (v ∷ ws)) p.all) ∙ filled-word w (parts_of (spoken (v ∷ ws))) p.some ∙ ap (λ (l : List (List ℕ)). w ∷ l) (words_back (v ∷ ws) r)
@@ -62,6 +63,7 @@ ends-word (b ∷ (a ∷ w)) p = ends-cons b (a ∷ w) (ends-word (a ∷ w) (reco
 
 ends-spoken : (ws : List (List ℕ)) → Words ws → Ends (spoken ws)
 unfolding spoken
+ends-spoken [] x = elim x [ ]
 ends-spoken (w ∷ []) (last p) = ends-word w p
 ends-spoken (w ∷ (v ∷ ws)) (more p r) = ends-append w (space ∷ spoken (v ∷ ws)) (ends-cons space (spoken (v ∷ ws)) (ends-spoken (v ∷ ws) r))
 

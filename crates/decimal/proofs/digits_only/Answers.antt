@@ -8,6 +8,7 @@ use borrow.Author.Tests.{le-leb, lt-leb, ltb-true, ltb-false}
 use Rattle.decimal.specs.ByteSteps.{all_digits}
 use Rattle.decimal.proofs.Steps.{all_drop, all_end}
 use Rattle.decimal.proofs.digits_only.Goals as goal
+use Rattle.decimal.proofs.digits_only.Goals.{then-b-lt48-via-then-b-lt48, then-b-lt48-via-else-b-lt48+then-b-gt57}
 
 pub loop-i-init : goal.loop-i-init
 loop-i-init c = (omega arith, refl)
@@ -21,7 +22,7 @@ returns-then-b-lt48 c = let s = c.args.s.now in
     let b = get_or s l.i 0 in
     sym
     (all_drop s l.i c.loop-i-test.true
-    ∙ ⊎_elim (λ w. rw (lt-leb 48 b (omega (arith, w.true)))) (λ w. rw (le-leb 48 b (omega (arith, w.0.false)), lt-leb b 57 (ltb-true 57 b w.1.true))) c.then-b-lt48.branch)
+    ∙ (elim c.then-b-lt48.branch [ then-b-lt48-via-then-b-lt48 w ↦ rw (lt-leb 48 b (omega (arith, w.if-b-lt48.true))) | then-b-lt48-via-else-b-lt48+then-b-gt57 w ↦ rw (le-leb 48 b (omega (arith, w.if-b-lt48.false)), lt-leb b 57 (omega (arith, w.if-b-gt57.true))) ]))
     ∙ l.invariant.1
 
 pub overflow_add-i : goal.overflow_add-i

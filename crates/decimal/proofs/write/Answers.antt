@@ -5,6 +5,7 @@ use native.Mathlib.Omega.{arith}
 use lib.IntN.{pos, nat_abs, ◌-ℤ◌}
 use lib.ListN.{length-drop}
 use mir.Syntax.{w64}
+use mir.Val.{SFits}
 use Rattle.integers.specs.Int.{P, N}
 use Rattle.integers.specs.IntLaws.{bk, ints, fit, excl, sub_is, abs_is}
 use Rattle.decimal.specs.Decimal.{digits_of}
@@ -22,11 +23,13 @@ overflow_cast-n c = omega (arith, ints, fit (overflow_sub-n c), fit c.ranges.z, 
 
 pub write_digits-k-requires : goal.write_digits-k-requires
 write_digits-k-requires c =
+    let sub-fits : SFits w64 (pos 0 -ℤ bk w64 c.args.z) =
+    omega (arith, ints, fit c.ranges.z) in
     let size : ℕ =
     nat_abs (bk w64 (pos 0 -ℤ bk w64 c.args.z)) in
     let size_is : size ≡ N c.args.z =
     let z = c.args.z in
-    omega (arith, ints, fit (overflow_sub-n c), fit c.ranges.z, sub_is (pos 0) (bk w64 z), abs_is (bk w64 (pos 0 -ℤ bk w64 z)), excl (pos 0 -ℤ bk w64 z), excl z) in
+    omega (arith, ints, fit sub-fits, fit c.ranges.z, sub_is (pos 0) (bk w64 z), abs_is (bk w64 (pos 0 -ℤ bk w64 z)), excl (pos 0 -ℤ bk w64 z), excl z) in
     (rw (rest_all, length-drop) (omega arith), omega (arith, size_is))
 
 pub overflow_add-result : goal.overflow_add-result
@@ -37,11 +40,13 @@ overflow_add-result c =
 
 pub returns-then-z-lt0 : goal.returns-then-z-lt0
 returns-then-z-lt0 c =
+    let sub-fits : SFits w64 (pos 0 -ℤ bk w64 c.args.z) =
+    omega (arith, ints, fit c.ranges.z) in
     let size : ℕ =
     nat_abs (bk w64 (pos 0 -ℤ bk w64 c.args.z)) in
     let size_is : size ≡ N c.args.z =
     let z = c.args.z in
-    omega (arith, ints, fit (overflow_sub-n c), fit c.ranges.z, sub_is (pos 0) (bk w64 z), abs_is (bk w64 (pos 0 -ℤ bk w64 z)), excl (pos 0 -ℤ bk w64 z), excl z) in
+    omega (arith, ints, fit sub-fits, fit c.ranges.z, sub_is (pos 0) (bk w64 z), abs_is (bk w64 (pos 0 -ℤ bk w64 z)), excl (pos 0 -ℤ bk w64 z), excl z) in
     let below-zero : 0 < N c.args.z =
     omega (arith, ints, fit c.ranges.z) in
     let arm = c in
@@ -49,7 +54,7 @@ returns-then-z-lt0 c =
     let w = c.write_digits-k in
     let t = text-negative start.args.z (size) (size_is) (below-zero) in (
       rw t (omega (arith, w.ensures.0)),
-      rw t (signed start.args.out.now (digits_of (size)) w.new.0 w.result (omega arith) w.ensures.1),
+      rw t (signed start.args.out.now (digits_of (size)) w.new.out w.result (omega arith) w.ensures.1),
     )
 
 pub overflow_cast-n-2 : goal.overflow_cast-n-2

@@ -11,9 +11,9 @@ returns-then-is_empty c = let e = c in
 pub returns-then-higher-eq0 : goal.returns-then-higher-eq0
 returns-then-higher-eq0 c = let l = c in
     let a = l.args in
-    c.lowest_above.ensures ∙ sym (next-lowest a.g (sym l.lowest-above.ensures ∙ c.if-higher-eq0.true))
+    c.lowest_above.ensures ∙ sym (next-lowest a.g (sym l.lowest_above-higher.ensures ∙ c.if-higher-eq0.true))
 
 pub returns : goal.returns
 returns c = let l = c in
     let a = l.args in
-    l.lowest-above.ensures ∙ sym (next-higher a.g (λ e. c.if-higher-eq0.false (l.lowest-above.ensures ∙ e)))
+    l.lowest_above-higher.ensures ∙ sym (next-higher a.g (λ e. c.if-higher-eq0.false (l.lowest_above-higher.ensures ∙ e)))

@@ -9,7 +9,7 @@ use Rattle.dispatcher.proofs.pick.Goals as goal
 pub returns-then-a-ne0 : goal.returns-then-a-ne0
 returns-then-a-ne0 c =
     let first : let d = c.args.d in c.next-a.result ≡ next_of (group_of d (not (after_error d))) =
-    c.next-a.ensures ∙ ap next_of c.Group-of.ensures in
+    c.next-a.ensures ∙ ap next_of c.group_of.ensures in
     let w = c in
     let d = w.args.d in
     c.polled.ensures
@@ -19,7 +19,7 @@ returns-then-a-ne0 c =
 pub returns-then-b-ne0 : goal.returns-then-b-ne0
 returns-then-b-ne0 c =
     let first : let d = c.args.d in c.next-a.result ≡ next_of (group_of d (not (after_error d))) =
-    c.next-a.ensures ∙ ap next_of c.Group-of.ensures in
+    c.next-a.ensures ∙ ap next_of c.group_of.ensures in
     let second : let d = c.args.d in c.next-b.result ≡ next_of (group_of d (after_error d)) =
     c.next-b.ensures ∙ ap next_of c.group_of-2.ensures in
     let none_first : let d = c.args.d in some (group_of d (not (after_error d))) ≡ false =
@@ -35,7 +35,7 @@ returns-then-b-ne0 c =
 pub returns : goal.returns
 returns c =
     let first : let d = c.args.d in c.next-a.result ≡ next_of (group_of d (not (after_error d))) =
-    c.next-a.ensures ∙ ap next_of c.Group-of.ensures in
+    c.next-a.ensures ∙ ap next_of c.group_of.ensures in
     let second : let d = c.args.d in c.next-b.result ≡ next_of (group_of d (after_error d)) =
     c.next-b.ensures ∙ ap next_of c.group_of-2.ensures in
     let none_first : let d = c.args.d in some (group_of d (not (after_error d))) ≡ false =

@@ -10,7 +10,6 @@ use mathlib.Core.Bool.{false}
 use Rattle.modbus.specs.Request.{is_unknown, wrong_amount, wrong_start, request_in}
 use Rattle.modbus.proofs.WholeLaws.{Whole, whole, known-long, write-long}
 use Rattle.modbus.proofs.requested.Goals as goal
-use Rattle.modbus.proofs.requested.Tie as tie
 
 pub unknown-requires : goal.unknown-requires
 unknown-requires c = tt
@@ -91,22 +90,22 @@ pub value_of-requires : goal.value_of-requires
 value_of-requires c =
     let at-start : Whole c.args.f.now =
     whole c.args.f.now c.requires in
-    let entry : tie.Start =
-    c in
-    let passed : let f = (entry).args.f.now in (is_unknown f ≡ false) × (wrong_amount f ≡ false) × (wrong_start f ≡ false) =
+    let at-start : Whole c.args.f.now =
+    whole c.args.f.now c.requires in
+    let passed : let f = c.args.f.now in (is_unknown f ≡ false) × (wrong_amount f ≡ false) × (wrong_start f ≡ false) =
     let s = c in
     let a = s in
     let u = a in
     (sym u.unknown.ensures ∙ a.if-unknown.false, sym a.wrong_amount.ensures ∙ s.if-wrong_amount.false, sym s.wrong_start.ensures ∙ c.if-wrong_start.false) in
     let s = c in
-    omega (arith, write-long _ (at-start (entry)) c.if-f-eq-WRITE.true (passed).1)
+    omega (arith, write-long _ at-start c.if-f-eq-WRITE.true (passed).1)
 
 pub returns-then-f-eq-WRITE : goal.returns-then-f-eq-WRITE
 unfolding request_in
 returns-then-f-eq-WRITE c =
-    let entry : tie.Start =
-    c in
-    let passed : let f = (entry).args.f.now in (is_unknown f ≡ false) × (wrong_amount f ≡ false) × (wrong_start f ≡ false) =
+    let at-start : Whole c.args.f.now =
+    whole c.args.f.now c.requires in
+    let passed : let f = c.args.f.now in (is_unknown f ≡ false) × (wrong_amount f ≡ false) × (wrong_start f ≡ false) =
     let s = c in
     let a = s in
     let u = a in
@@ -125,9 +124,9 @@ start_of-requires-2 c =
 pub returns : goal.returns
 unfolding request_in
 returns c =
-    let entry : tie.Start =
-    c in
-    let passed : let f = (entry).args.f.now in (is_unknown f ≡ false) × (wrong_amount f ≡ false) × (wrong_start f ≡ false) =
+    let at-start : Whole c.args.f.now =
+    whole c.args.f.now c.requires in
+    let passed : let f = c.args.f.now in (is_unknown f ≡ false) × (wrong_amount f ≡ false) × (wrong_start f ≡ false) =
     let s = c in
     let a = s in
     let u = a in

@@ -7,7 +7,7 @@ use Rattle.logrun.specs.Progress.{Ready}
 use Rattle.panelrun.proofs.run.Given as goal
 
 abbrev pub invariant-loop-turns : goal.invariant-loop-turns
-invariant-loop-turns l = Ready l.q × (length l.input ≡ 8192) × (length l.output ≡ 262272)
+invariant-loop-turns g l = Ready l.q × (length l.input ≡ 8192) × (length l.output ≡ 262272)
 
 abbrev pub decreases-loop-turns : goal.decreases-loop-turns
-decreases-loop-turns l = l.turns
+decreases-loop-turns g l = l.turns

@@ -6,6 +6,6 @@ use borrow.Author.Rules.{rules}
 use Rattle.poll_terminal.proofs.answer.Goals as goal
 
 pub returns : goal.returns
-returns c = let line = c in
+returns g c = let line = c in
     let h = line in
     rw (← h.held-n.ensures.0) line.line-s.ensures.is

@@ -4,7 +4,7 @@ use borrow.Author.Rules.{rules}
 use Rattle.poll_terminal.proofs.run.Given as goal
 
 abbrev pub invariant-loop-pieces : goal.invariant-loop-pieces
-invariant-loop-pieces l = Unit {0}
+invariant-loop-pieces g l = Unit {0}
 
 abbrev pub decreases-loop-pieces : goal.decreases-loop-pieces
-decreases-loop-pieces l = l.pieces
+decreases-loop-pieces g l = l.pieces

@@ -3,7 +3,7 @@ use borrow.Author.Rules.{rules}
 use Rattle.poll_terminal.proofs.take.Goals as goal
 
 pub returns-then-x : goal.returns-then-x
-returns-then-x c = rw (c.if-x.true, c.answer.ensures)
+returns-then-x g c = rw (c.if-x.true, c.answer.ensures)
 
 pub returns : goal.returns
-returns c = rw c.if-x.false
+returns g c = rw c.if-x.false

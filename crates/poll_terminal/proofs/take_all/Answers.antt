@@ -13,32 +13,32 @@ use borrow.Author.Rules.{rules}
 use Rattle.poll_terminal.proofs.take_all.Goals as goal
 
 pub loop-i-init : goal.loop-i-init
-loop-i-init c = let s = c in
+loop-i-init g c = let s = c in
     let n : length s.args.t.collector.bytes ≡ most = search rules in
     (omega arith, n, refl)
 
 pub bounds-bytes-i : goal.bounds-bytes-i
-bounds-bytes-i c = omega arith
+bounds-bytes-i g c = omega arith
 
 pub push-x-requires : goal.push-x-requires
-push-x-requires c = omega (arith, c.loop-i.invariant.1)
+push-x-requires g c = omega (arith, c.loop-i.invariant.1)
 
 pub take-d-requires : goal.take-d-requires
-take-d-requires c =
+take-d-requires g c =
     let whole : length c.push-x.new.bytes ≡ most =
     omega (arith, c.push-x.auto.0, c.loop-i.invariant.1) in
     omega (arith, whole)
 
 pub overflow_add-i : goal.overflow_add-i
-overflow_add-i c = let turn = c in
+overflow_add-i g c = let turn = c in
     let s = turn in
     omega (arith, turn.loop-i-test.true, s.well_formed.1.0.0)
 
 pub loop-i-smaller : goal.loop-i-smaller
-loop-i-smaller c = omega (arith, c.loop-i-test.true)
+loop-i-smaller g c = omega (arith, c.loop-i-test.true)
 
 pub loop-i-preserved : goal.loop-i-preserved
-loop-i-preserved c =
+loop-i-preserved g c =
     let whole : length c.push-x.new.bytes ≡ most =
     omega (arith, c.push-x.auto.0, c.loop-i.invariant.1) in
     let push = c in
@@ -52,6 +52,6 @@ loop-i-preserved c =
     )
 
 pub returns : goal.returns
-returns c = let at = c in
+returns g c = let at = c in
     let all = rw at.extent_of-x.ensures at at.loop-i.invariant.2 in
     rw c.kept.ensures (sym (all ∙ talked-end after_line _ _ _ c.loop-i-test.false))

@@ -6,4 +6,4 @@ use borrow.Author.Rules.{rules}
 use Rattle.recorded_planes.proofs.case.Goals as goal
 
 pub turned-requires : goal.turned-requires
-turned-requires c = (length-take-le _ _ (omega arith), (length-take-le _ _ (omega arith), length-take-le _ _ (omega arith)))
+turned-requires g c = (length-take-le _ _ (omega arith), (length-take-le _ _ (omega arith), length-take-le _ _ (omega arith)))

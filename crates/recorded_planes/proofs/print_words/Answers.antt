@@ -5,10 +5,10 @@ use borrow.Author.Rules.{rules}
 use Rattle.recorded_planes.proofs.print_words.Goals as goal
 
 pub loop-i-init : goal.loop-i-init
-loop-i-init c = tt
+loop-i-init g c = tt
 
 pub loop-i-preserved-then-i-words : goal.loop-i-preserved-then-i-words
-loop-i-preserved-then-i-words c = tt
+loop-i-preserved-then-i-words g c = tt
 
 pub loop-i-preserved : goal.loop-i-preserved
-loop-i-preserved c = tt
+loop-i-preserved g c = tt

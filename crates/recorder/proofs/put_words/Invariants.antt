@@ -1,13 +1,9 @@
 -- `recorder::put_words` meets its contract. The invariant: the bytes of the words before, and behind them what was there.
-use mathlib.Core.Path.{◌≡◌, refl, ap, ap₂, ◌∙◌}
-use mathlib.Core.List.{List, ◌++◌, append-nil}
-use Prim.Native.Nat.{ℕ, ◌-◌, ◌*◌, ◌≤◌}
-use native.Mathlib.Omega.{arith}
-use lib.ListN.{length, take, drop, drop_of_length-le, length-set}
-use lib.Seq.{take-length}
+use mathlib.Core.Path.{◌≡◌}
+use mathlib.Core.List.{◌++◌}
+use Prim.Native.Nat.{◌-◌, ◌*◌, ◌≤◌}
+use lib.ListN.{length, take, drop}
 use Rattle.events.specs.Bytes.{bytes_of}
-use Rattle.recorder.specs.LoopLaws.{put-more}
-use borrow.Author.Rules.{rules}
 use Rattle.recorder.proofs.put_words.Given as goal
 
 abbrev pub invariant-loop-k : goal.invariant-loop-k

@@ -1,12 +1,11 @@
 -- `recorder::turn` meets its contract. The loop's invariant: the copy with its groups turned is the output up to `at` and what is left of the groups.
 use mathlib.Core.Path.{◌≡◌, refl, sym, ap, ◌∙◌}
 use mathlib.Core.List.{List, ◌++◌}
-use Prim.Native.Nat.{ℕ, suc, ◌+◌, ◌-◌, ◌/◌, ◌≤◌}
+use Prim.Native.Nat.{ℕ, suc, ◌+◌, ◌-◌, ◌/◌}
 use native.Mathlib.Omega.{arith}
 use borrow.Author.Rules.{rules}
 use borrow.Author.Tests.{lt-ltb, le-ltb}
 use lib.ListN.{length, take, drop, take-append-drop}
-use lib.Seq.{take-length}
 use Rattle.bitplanes.specs.Turned.{in_groups}
 use Rattle.bitplanes.proofs.GroupLaws.{groups-append, group-next}
 use Rattle.recorder.specs.Recorded.{turned_bytes, stored}
@@ -18,7 +17,12 @@ returns-then-output-n c = let start = c in
     rw (lt-ltb (length start.args.output.now) (length start.args.input.now) (omega arith))
 
 pub loop-at-init : goal.loop-at-init
-loop-at-init c = (search rules, search rules, refl, ap (λ (k : ℕ). in_groups 128 turned_bytes (k / 128) c.copy.new.1.0) (omega arith))
+loop-at-init c = (
+  search rules,
+  search rules,
+  refl,
+  ap (λ (k : ℕ). in_groups 128 turned_bytes (k / 128) (c.copy_from_slice.new.self ++ drop (length c.args.input.now) c.args.output.now)) (omega arith),
+)
 
 pub loop-at-preserved : goal.loop-at-preserved
 loop-at-preserved c = let call = c in
@@ -46,5 +50,5 @@ returns c = let at = c in
     let all : at.loop-at.output ≡ stored ts ++ drop n old =
     sym (take-append-drop at.loop-at.at at.loop-at.output)
     ∙ ap (λ (k : ℕ). take at.loop-at.at at.loop-at.output ++ in_groups 128 turned_bytes k (drop at.loop-at.at at.loop-at.output)) (sym none)
-    ∙ sym at.loop-at.invariant.3 ∙ ap (in_groups 128 turned_bytes (n / 128)) (copied.copy.ensures.1 ∙ ap (λ (x : List ℕ). x ++ drop n old) (take-length ts)) ∙ groups-append 128 turned_bytes (n / 128) ts (drop n old) (omega arith) in
+    ∙ sym at.loop-at.invariant.3 ∙ ap (in_groups 128 turned_bytes (n / 128)) (ap (λ (x : List ℕ). x ++ drop n old) copied.copy_from_slice.ensures.after) ∙ groups-append 128 turned_bytes (n / 128) ts (drop n old) (omega arith) in
     rw (le-ltb _ _ copied.if-output-n.false) (ap (λ (x : List ℕ). (0, x)) all)

@@ -8,7 +8,6 @@ use Rattle.bitplanes.specs.Turned.{turned_group, turned}
 use Rattle.bitplanes.proofs.TurnedLaws.{filled-long, turned-one}
 use Rattle.events.specs.Bytes.{bytes_of}
 use Rattle.recorder.proofs.RecordedLaws.{group-words}
-use borrow.Author.Rules.{rules}
 use Rattle.recorder.proofs.turn_group.Goals as goal
 
 pub returns : goal.returns

@@ -1,9 +1,9 @@
 -- `recorder::words_of` meets its contract. The invariant: the k words stored and the words left are the words of the group.
 use mathlib.Core.Path.{◌≡◌, refl, sym, ap, ap₂, ◌∙◌}
 use mathlib.Core.List.{List, ◌++◌, append-nil}
-use Prim.Native.Nat.{ℕ, ◌+◌, ◌-◌, ◌*◌, ◌≤◌}
+use Prim.Native.Nat.{ℕ, ◌+◌, ◌*◌}
 use native.Mathlib.Omega.{arith}
-use lib.ListN.{length, take, drop, set}
+use lib.ListN.{take, drop, set}
 use lib.Seq.{take_all}
 use Rattle.events.specs.Bytes.{words_in}
 use Rattle.events.proofs.ByteLaws.{words-done}

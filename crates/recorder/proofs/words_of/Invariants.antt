@@ -1,14 +1,9 @@
 -- `recorder::words_of` meets its contract. The invariant: the k words stored and the words left are the words of the group.
-use mathlib.Core.Path.{◌≡◌, refl, sym, ap, ap₂, ◌∙◌}
-use mathlib.Core.List.{List, ◌++◌, append-nil}
-use Prim.Native.Nat.{ℕ, ◌+◌, ◌-◌, ◌*◌, ◌≤◌}
-use native.Mathlib.Omega.{arith}
-use lib.ListN.{length, take, drop, set}
-use lib.Seq.{take_all}
+use mathlib.Core.Path.{◌≡◌}
+use mathlib.Core.List.{◌++◌}
+use Prim.Native.Nat.{◌-◌, ◌*◌, ◌≤◌}
+use lib.ListN.{length, take, drop}
 use Rattle.events.specs.Bytes.{words_in}
-use Rattle.events.proofs.ByteLaws.{words-done}
-use Rattle.recorder.specs.LoopLaws.{words_more}
-use borrow.Author.Rules.{rules}
 use Rattle.recorder.proofs.words_of.Given as goal
 
 abbrev pub invariant-loop-k : goal.invariant-loop-k

@@ -6,4 +6,4 @@ abbrev pub invariant-loop-turns : goal.invariant-loop-turns
 invariant-loop-turns l = Unit {0}
 
 abbrev pub decreases-loop-turns : goal.decreases-loop-turns
-decreases-loop-turns l = turns
+decreases-loop-turns l = l.turns

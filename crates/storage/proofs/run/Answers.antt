@@ -6,7 +6,7 @@ use borrow.Author.Rules.{rules}
 use Rattle.storage.proofs.run.Goals as goal
 
 pub loop-turns-init : goal.loop-turns-init
-loop-turns-init c = (search rules, search rules)
+loop-turns-init g c = (search rules, search rules)
 
 pub loop-turns-preserved : goal.loop-turns-preserved
-loop-turns-preserved c = (search rules, search rules)
+loop-turns-preserved g c = (search rules, search rules)

@@ -6,7 +6,7 @@ use borrow.Author.Rules.{rules}
 use Rattle.storage.proofs.run.Given as goal
 
 abbrev pub invariant-loop-turns : goal.invariant-loop-turns
-invariant-loop-turns l = (length l.input ≡ 8192) × (length l.output ≡ 8192)
+invariant-loop-turns g l = (length l.input ≡ 8192) × (length l.output ≡ 8192)
 
 abbrev pub decreases-loop-turns : goal.decreases-loop-turns
-decreases-loop-turns l = l.turns
+decreases-loop-turns g l = l.turns

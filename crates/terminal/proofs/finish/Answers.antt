@@ -7,6 +7,6 @@ use borrow.Author.Rules.{rules}
 use Rattle.terminal.proofs.finish.Goals as goal
 
 pub answer-requires : goal.answer-requires
-answer-requires c = let s = c in
+answer-requires g c = let s = c in
     let n : length s.args.t.collector.bytes ≡ most = search rules in
     (s.requires, omega arith)

@@ -5,7 +5,7 @@ use Rattle.dialog.specs.Dialog.{Ready}
 use Rattle.terminal.proofs.run.Goals as goal
 
 pub overflow_sub-pieces : goal.overflow_sub-pieces
-overflow_sub-pieces c = omega arith
+overflow_sub-pieces g c = omega arith
 
 pub loop-pieces-smaller : goal.loop-pieces-smaller
-loop-pieces-smaller c = omega arith
+loop-pieces-smaller g c = omega arith

@@ -5,7 +5,7 @@ use Rattle.dialog.specs.Dialog.{Ready}
 use Rattle.terminal.proofs.run.Given as goal
 
 abbrev pub invariant-loop-pieces : goal.invariant-loop-pieces
-invariant-loop-pieces l = Ready l.t.console
+invariant-loop-pieces g l = Ready l.t.console
 
 abbrev pub decreases-loop-pieces : goal.decreases-loop-pieces
-decreases-loop-pieces l = l.pieces
+decreases-loop-pieces g l = l.pieces

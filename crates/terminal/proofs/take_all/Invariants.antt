@@ -13,8 +13,8 @@ use borrow.Author.Rules.{rules}
 use Rattle.terminal.proofs.take_all.Given as goal
 
 abbrev pub invariant-loop-i : goal.invariant-loop-i
-invariant-loop-i l =
+invariant-loop-i g l =
     Ready l.c × (l.i ≤ length l.bytes) × (length l.held ≡ most) × (talked_all after_line (l.initial.c, collected l.initial.held l.initial.x) l.bytes ≡ talked_all after_line (l.c, collected l.held l.x) (drop l.i l.bytes))
 
 abbrev pub decreases-loop-i : goal.decreases-loop-i
-decreases-loop-i l = length l.bytes - l.i
+decreases-loop-i g l = length l.bytes - l.i

@@ -47,6 +47,6 @@ returns c =
     record {
       ends = rw length-append (omega (arith, written));
       holds =
-          number_put args.out.now (text_of args.z) w.new.0 args.at w.result args.after (written) (fitting)
+          number_put args.out.now (text_of args.z) w.new.out args.at w.result args.after (written) (fitting)
           (rw (to_z-of_z {w = w64} start.ranges.z) at w.ensures.1);
     }

@@ -8,4 +8,4 @@ pub returns : goal.returns
 unfolding packed write_reply sealed
 returns c = let r = c in
     let l = r in
-    rw (c.high_byte-high.ensures, c.low_byte-low.ensures, r.crc-c.ensures, l.low_byte.ensures, l.high_byte-b0.ensures)
+    rw (c.high_byte-high.ensures, c.low_byte-low.ensures, r.crc-c.ensures, l.low_byte-b1.ensures, l.high_byte-b0.ensures)

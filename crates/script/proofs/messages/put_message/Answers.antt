@@ -60,7 +60,4 @@ unfolding message_of
 returns-in-12 c = rw c.in-12.is c.put_bytes-in-12.ensures
 
 pub returns-in_default : goal.returns-in_default
-returns-in_default c = let r = c.match.rest in
-    let k = c.args.kind in
-    rw (other-message k (λ h. above 12 k (above 11 k (above 10 k (above 9 k (above 8 k (above 7 k (above 6 k (above 5 k (above 4 k (above 3 k (above 2 k (above 1 k h r.0.0.0.0.0.0.0.0.0.0.0.1) r.0.0.0.0.0.0.0.0.0.0.1) r.0.0.0.0.0.0.0.0.0.1) r.0.0.0.0.0.0.0.0.1) r.0.0.0.0.0.0.0.1) r.0.0.0.0.0.0.1) r.0.0.0.0.0.1) r.0.0.0.0.1) r.0.0.0.1) r.0.0.1) r.0.1) r.1))
-    c.put_bytes-in_default.ensures
+returns-in_default c = rw (other-message c.args.kind (λ h. omega arith)) c.put_bytes-in_default.ensures

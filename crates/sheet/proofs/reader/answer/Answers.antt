@@ -6,7 +6,7 @@ use borrow.Author.Rules.{rules}
 use Rattle.sheet.proofs.reader.answer.Goals as goal
 
 pub returns : goal.returns
-returns c = let a = c in
+returns g c = let a = c in
     record {
       is = rw (← a.held-n.ensures.0) a.line-a.ensures.is;
       ready = a.line-a.ensures.text.1.0;

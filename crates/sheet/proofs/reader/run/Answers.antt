@@ -5,7 +5,7 @@ use borrow.Author.Rules.{rules}
 use Rattle.sheet.proofs.reader.run.Goals as goal
 
 pub overflow_sub-turns : goal.overflow_sub-turns
-overflow_sub-turns c = omega arith
+overflow_sub-turns g c = omega arith
 
 pub loop-turns-smaller : goal.loop-turns-smaller
-loop-turns-smaller c = omega arith
+loop-turns-smaller g c = omega arith

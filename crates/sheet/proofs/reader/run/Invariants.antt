@@ -5,7 +5,7 @@ use borrow.Author.Rules.{rules}
 use Rattle.sheet.proofs.reader.run.Given as goal
 
 abbrev pub invariant-loop-turns : goal.invariant-loop-turns
-invariant-loop-turns l = Ready l.sheet.progress
+invariant-loop-turns g l = Ready l.sheet.progress
 
 abbrev pub decreases-loop-turns : goal.decreases-loop-turns
-decreases-loop-turns l = l.turns
+decreases-loop-turns g l = l.turns

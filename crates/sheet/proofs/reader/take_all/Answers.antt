@@ -9,36 +9,36 @@ use borrow.Author.Rules.{rules}
 use Rattle.sheet.proofs.reader.take_all.Goals as goal
 
 pub loop-i-init : goal.loop-i-init
-loop-i-init c = let s = c in
+loop-i-init g c = let s = c in
     let n : length s.args.l.bytes ≡ most = search rules in
     (s.requires, omega arith, n)
 
 pub bounds-bytes-i : goal.bounds-bytes-i
-bounds-bytes-i c = omega arith
+bounds-bytes-i g c = omega arith
 
 pub push-x-requires : goal.push-x-requires
-push-x-requires c = omega (arith, c.loop-i.invariant.2)
+push-x-requires g c = omega (arith, c.loop-i.invariant.2)
 
 pub take-sheet-requires : goal.take-sheet-requires
-take-sheet-requires c =
+take-sheet-requires g c =
     let whole : length c.push-x.new.bytes ≡ most =
     omega (arith, c.push-x.auto.0, c.loop-i.invariant.2) in
     (c.loop-i.invariant.0, omega (arith, whole))
 
 pub overflow_add-i : goal.overflow_add-i
-overflow_add-i c = let turn = c in
+overflow_add-i g c = let turn = c in
     let s = turn in
     omega (arith, turn.loop-i-test.true, s.well_formed.1.1.0.0)
 
 pub loop-i-smaller : goal.loop-i-smaller
-loop-i-smaller c = omega (arith, c.loop-i-test.true)
+loop-i-smaller g c = omega (arith, c.loop-i-test.true)
 
 pub loop-i-preserved : goal.loop-i-preserved
-loop-i-preserved c =
+loop-i-preserved g c =
     let whole : length c.push-x.new.bytes ≡ most =
     omega (arith, c.push-x.auto.0, c.loop-i.invariant.2) in
     let push = c in
     (c.take-sheet.ensures, omega (arith, push.loop-i-test.true), whole)
 
 pub returns : goal.returns
-returns c = c.loop-i.invariant.0
+returns g c = c.loop-i.invariant.0

@@ -9,7 +9,7 @@ use borrow.Author.Rules.{rules}
 use Rattle.sheet.proofs.reader.take_all.Given as goal
 
 abbrev pub invariant-loop-i : goal.invariant-loop-i
-invariant-loop-i l = Ready l.sheet.progress × (l.i ≤ length l.bytes) × (length l.held ≡ most)
+invariant-loop-i g l = Ready l.sheet.progress × (l.i ≤ length l.bytes) × (length l.held ≡ most)
 
 abbrev pub decreases-loop-i : goal.decreases-loop-i
-decreases-loop-i l = length l.bytes - l.i
+decreases-loop-i g l = length l.bytes - l.i

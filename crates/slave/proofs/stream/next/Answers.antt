@@ -3,7 +3,7 @@ use Rattle.std.proofs.Common.{rules}
 use Rattle.slave.proofs.stream.next.Goals as goal
 
 pub loop-turns-init : goal.loop-turns-init
-loop-turns-init c = tt
+loop-turns-init g c = tt
 
 pub loop-turns-preserved : goal.loop-turns-preserved
-loop-turns-preserved c = tt
+loop-turns-preserved g c = tt

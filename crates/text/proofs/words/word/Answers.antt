@@ -6,6 +6,9 @@ use Rattle.text.specs.WordLaws.{word-within}
 use borrow.Author.Rules.{rules}
 use Rattle.text.proofs.words.word.Goals as goal
 
+pub slice_bounds-result-end : goal.slice_bounds-result-end
+slice_bounds-result-end c = rw c.word_length-n.ensures (sym (length-take-le _ _ (word-within c.unspaced-t.result.now)))
+
 pub returns : goal.returns
 unfolding word_of
 returns c = rw (c.word_length-n.ensures, c.unspaced-t.ensures)
