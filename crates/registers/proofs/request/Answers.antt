@@ -2,13 +2,13 @@
 use borrow.Author.Rules.{rules}
 use mathlib.Core.Path.{◌≡◌}
 use mir.Syntax.{w32}
-use Rattle.integers.specs.IntLaws.{bk, back_at}
+use Rattle.integers.specs.IntLaws.{bk}
 use Rattle.registers.specs.Serve.{request_of}
 use Rattle.registers.proofs.request.Goals as goal
 
 pub returns-in-Broken : goal.returns-in-Broken
 unfolding request_of
-returns-in-Broken c = rw (c.unchanged.ensures, c.no_reply.ensures, c.enum_told-1.given.1)
+returns-in-Broken c = rw (c.unchanged.ensures, c.no_reply.ensures, c.in-Broken.is)
 
 pub returns-in-Ignored : goal.returns-in-Ignored
 unfolding request_of
@@ -26,7 +26,7 @@ returns-in-Read c = let e = c in
     let asked = w in
     let shown = asked.args.l.shown in
     let read : bk w32 w.word_in-z.result ≡ w.word_in-z.result = search rules in
-    let kept = back_at w32 shown w.struct_told-1.given.1.1.1.1.0.1 in
+    let kept : bk w32 shown ≡ shown = search rules in
     rw (c.unchanged-in-Read.ensures, c.send-in-Read.ensures, e.read_reply.ensures, read, w.word_in-z.ensures, kept, asked.in-Read.is)
 
 pub returns-in-Write : goal.returns-in-Write

@@ -1,5 +1,4 @@
 -- `registers::send` meets its contract: the reply, or none.
-use borrow.Author.Rules.{rules}
 use Rattle.registers.specs.Serve.{sent}
 use Rattle.registers.proofs.send.Goals as goal
 

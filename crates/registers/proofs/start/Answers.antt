@@ -1,5 +1,4 @@
 -- `registers::start` meets its contract: a node address leads to the load, another to 33.
-use borrow.Author.Rules.{rules}
 use Rattle.state.proofs.ValidLaws.{good-fresh}
 use Rattle.parameters.proofs.ValidLaws.{defaults-valid}
 use Rattle.registers.specs.Start.{started_of}

@@ -1,5 +1,4 @@
 -- `registers::write` meets its contract: the changed table is loaded; it is put in force with its fresh state, or nothing changes.
-use borrow.Author.Rules.{rules}
 use mathlib.Core.Path.{◌≡◌}
 use mir.Facts.{to_z-of_z}
 use Rattle.parameters.specs.Slots.{with_word}
