@@ -68,3 +68,6 @@ pub fn write_all<W: Write>(output: &mut W, bytes: &[u8]) -> bool
     }
     true
 }
+
+#[cfg(test)]
+mod tests; // tests.rt

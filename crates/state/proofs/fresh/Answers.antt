@@ -1,5 +1,4 @@
 -- `state::fresh` meets its contract: four times the fresh switch, and the fresh record.
-use borrow.Author.Rules.{rules}
 use Rattle.state.specs.State.{fresh_of}
 use Rattle.state.proofs.fresh.Goals as goal
 

@@ -1,5 +1,4 @@
 -- `state::received` meets its contract: the basis of the telegram, its reading, and least and greatest with it.
-use borrow.Author.Rules.{rules}
 use Rattle.state.proofs.received.Goals as goal
 
 pub returns : goal.returns

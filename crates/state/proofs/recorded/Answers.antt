@@ -1,5 +1,4 @@
 -- `state::recorded` meets its contract: the record is brought up to date with the reading's drive, and neither has a NaN.
-use borrow.Author.Rules.{rules}
 use Rattle.state.proofs.recorded.Goals as goal
 
 pub returns : goal.returns

@@ -1,5 +1,4 @@
 -- `state::reread` meets its contract: the reading anew, and the extremes with it.
-use borrow.Author.Rules.{rules}
 use Rattle.state.proofs.reread.Goals as goal
 
 pub returns : goal.returns

@@ -22,7 +22,7 @@ returns-then-x c = let l = c.lower in
     let er : bk w32 r.result ≡ r.result = search rules in
     let el : bk w32 x.least ≡ x.least = search rules in
     let eg : bk w32 x.greatest ≡ x.greatest = search rules in
-    rw (eq-eqb _ _ (sym b.error_in.ensures ∙ b.if-error_in-ne0.false), b.if-x.true, back_at w32 l.result l.type-inv, back_at w32 h.result h.type_inv, l.ensures, h.ensures, er, el, eg)
+    rw (eq-eqb _ _ (sym b.error_in.ensures ∙ b.if-error_in-ne0.false), b.if-x.true, back_at w32 l.result l.type_inv, back_at w32 h.result h.type_inv, l.ensures, h.ensures, er, el, eg)
 
 pub returns : goal.returns
 unfolding widened_of
