@@ -1,7 +1,4 @@
 -- `storage::run` is safe and ends: a piece fits its output. The measure is the turns left.
-use mathlib.Core.Path.{◌≡◌, sym}
-use lib.ListN.{length}
-use lib.Seq.{length-take-le}
 use borrow.Author.Rules.{rules}
 use Rattle.storage.proofs.run.Goals as goal
 
