@@ -75,8 +75,8 @@ module _ (p : Progress) (w : ℕ) (s : AfterWord) (t : Taken) (running : eqb p.r
 -- ---- the words of a piece
 pub words-ready : {p : Progress} → Ready p → (ws : List ℕ) → Ready (words_fed p ws)
 unfolding words_fed
-words-ready r [] = r
-words-ready r (w ∷ ws) = words-ready (word-ready r w) ws
+words-ready {p = p} r [] = r
+words-ready {p = p} r (w ∷ ws) = words-ready {p = word_fed p w} (word-ready r w) ws
 
 -- nothing happens behind a refusal
 pub words-fed-ended : (p : Progress) (ws : List ℕ) → eqb p.refusal 0 ≡ false → words_fed p ws ≡ p

@@ -5,6 +5,6 @@ use Rattle.logrun.proofs.start.Goals as goal
 
 pub returns : goal.returns
 returns c = record {
-      is = rw c.fresh.ensures;
-      ready = record { state = c.requires; count = omega arith };
-    }
+  is = rw c.fresh.ensures;
+  ready = record { state = c.requires; count = omega arith };
+}
