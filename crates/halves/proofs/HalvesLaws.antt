@@ -10,7 +10,6 @@ use Rattle.integers.specs.Round.{rounding, floor_mod}
 use Rattle.integers.proofs.HalfLaws.{multiple-no-half}
 use Rattle.integers.proofs.UpwardLaws.{up_same}
 use Rattle.measurement.specs.declared.Error.{Error}
-use Rattle.measurement.specs.declared.Error.TheVariants as Error
 use Rattle.measurement.specs.declared.Measurement.{Measurement}
 use Rattle.measurement.specs.declared.Scaling.{Scaling}
 use Rattle.measurement.specs.Curve.{curve, linearized_of, linearized_by}

@@ -6,7 +6,7 @@ use Rattle.events.specs.declared.Event.{Event}
 use Rattle.integers.specs.Fraction.{Frac, Ratio, Accurate}
 use Rattle.measurement.specs.declared.Error.TheVariants as Error
 use Rattle.measurement.specs.Curve.{steepest}
-use Rattle.parameters.specs.Slots.{offset_slot, offset, linearization, mode, hysteresis, with_offset}
+use Rattle.parameters.specs.Slots.{offset_slot, linearization, mode, hysteresis, with_offset}
 use Rattle.parameters.proofs.StoreLaws.{alike-sym, alike-trans, offset-alike, offset-stored, stored-scaling, stored-points}
 use Rattle.parameters.specs.Valid.{Valid}
 use Rattle.parameters.proofs.ValidLaws.{loads}

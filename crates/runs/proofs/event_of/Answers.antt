@@ -1,5 +1,4 @@
 -- `runs::event_of` meets its contract by its tests.
-use borrow.Author.Rules.{rules}
 use borrow.Author.Tests.{eq-eqb, ne_eqb}
 use Rattle.runs.specs.Words.{event_of}
 use Rattle.runs.proofs.event_of.Goals as goal

@@ -1,5 +1,4 @@
 -- `runs::run` meets its contract: a refused table answers its refusal, and a loaded one its run, of which demand 3 is proved.
-use borrow.Author.Rules.{rules}
 use mathlib.Core.Path.{◌≡◌, sym, ap, ◌∙◌}
 use Rattle.panel.specs.declared.Loaded.{Loaded}
 use Rattle.panel.specs.Load.{loaded_of}

@@ -1,13 +1,7 @@
 -- `runs::run_on` meets its contract. The loop's invariant: the rest of the list, run from the last answer, ends as the whole list does, and the state is valid.
 -- The measure is what is left of the list.
-use borrow.Author.Rules.{rules}
-use mathlib.Core.Path.{◌≡◌, refl, sym, ◌∙◌}
-use Prim.Native.Nat.{◌≤◌, ◌-◌}
+use mathlib.Core.Path.{refl, sym, ◌∙◌}
 use native.Mathlib.Omega.{arith}
-use lib.ListN.{length, drop}
-use Rattle.state.specs.Valid.{Good}
-use Rattle.runs.specs.Run.{last_of, answers_of}
-use Rattle.runs.specs.Words.{events_in}
 use Rattle.runs.proofs.WordLaws.{words_more, words-end}
 use Rattle.runs.proofs.run_on.Goals as goal
 

@@ -1,13 +1,10 @@
 -- `runs::run_on` meets its contract. The loop's invariant: the rest of the list, run from the last answer, ends as the whole list does, and the state is valid.
-use borrow.Author.Rules.{rules}
-use mathlib.Core.Path.{◌≡◌, refl, sym, ◌∙◌}
+use mathlib.Core.Path.{◌≡◌}
 use Prim.Native.Nat.{◌≤◌, ◌-◌}
-use native.Mathlib.Omega.{arith}
 use lib.ListN.{length, drop}
 use Rattle.state.specs.Valid.{Good}
 use Rattle.runs.specs.Run.{last_of, answers_of}
 use Rattle.runs.specs.Words.{events_in}
-use Rattle.runs.proofs.WordLaws.{words_more, words-end}
 use Rattle.runs.proofs.run_on.Given as goal
 
 abbrev pub invariant-loop-i : goal.invariant-loop-i
