@@ -152,7 +152,8 @@ module _ {t : List ℤ} {s : State} {b : Book} (g : Good s) (k : Kept t s) (m : 
 pub book-run : {t : List ℤ} {s : State} {b : Book} → Good s → Kept t s → Matches t s b → (es : List Event) → Matches t (run_of s es) (book_from t b es)
 unfolding run_of book_from
 book-run g k m [] = m
-book-run {t} g k m (e ∷ es) = book-run (good-step g e) (kept_step t k e) (book-step g k m e) es
+book-run {t = t} {s = s} {b = b} g k m (e ∷ es) =
+    book-run {t = t} {s = (step_of s e).state} {b = book_step t b e} (good-step g e) (kept_step t k e) (book-step g k m e) es
 
 pub book-fresh : (t : List ℤ) → Matches t (fresh_of t) (fresh_book t)
 unfolding fresh_of

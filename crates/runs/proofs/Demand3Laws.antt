@@ -25,7 +25,7 @@ use Rattle.switching.proofs.SwitchingLaws.{mark_at}
 use Rattle.switching.specs.Travel.{Seen, travel, changes, hysteretic}
 use Rattle.switching.proofs.TravelLaws.{Lawful, view, mode-bound}
 use Rattle.state.specs.declared.State.{State}
-use Rattle.panel.specs.Step.{unasked, answer_of}
+use Rattle.panel.specs.Step.{step_of, unasked, answer_of}
 use Rattle.state.specs.Valid.{Good}
 use Rattle.panel.proofs.ValidLaws.{good-step}
 use Rattle.runs.specs.Run.{run_of, last_answer, trace_of, stored}
@@ -41,12 +41,12 @@ use Rattle.runs.proofs.ChangesLaws.{Unchanged, quiet-unchanged, teachless-quiet,
 pub good-run : {s : State} → Good s → (es : List Event) → Good (run_of s es)
 unfolding run_of
 good-run g [] = g
-good-run g (e ∷ es) = good-run (good-step g e) es
+good-run {s = s} g (e ∷ es) = good-run {s = (step_of s e).state} (good-step g e) es
 
 pub kept_run : {t : List ℤ} {s : State} → Kept t s → (es : List Event) → Kept t (run_of s es)
 unfolding run_of
 kept_run k [] = k
-kept_run {t} k (e ∷ es) = kept_run (kept_step t k e) es
+kept_run {t = t} {s = s} k (e ∷ es) = kept_run {t = t} {s = (step_of s e).state} (kept_step t k e) es
 
 -- ---- accuracy
 

@@ -118,7 +118,8 @@ module _ (t : List ℤ) where
   recorded-run : {s : State} {cs : List ℤ} → Kept t s → Recorded s cs → (es : List Event) → Recorded (run_of s es) (codes_from s cs es)
   unfolding run_of codes_from
   recorded-run k r [] = r
-  recorded-run k r (e ∷ es) = recorded-run (kept_step t k e) (recorded-step k r e) es
+  recorded-run {s = s} {cs = cs} k r (e ∷ es) =
+      recorded-run {s = (step_of s e).state} {cs = codes_by (accepted s e) (clears s e) (step_of s e) cs} (kept_step t k e) (recorded-step k r e) es
 
 -- the drive of a code that is on is the code's
 on-drive : (format : ℕ) (code : ℤ) (d : Drive) → CodeDrive format code d → T (is_on d) → present_of d ≡ float_of format code

@@ -135,12 +135,12 @@ module _ {t : List ℤ} (v : Valid t) (h : 0 < round_loop t) where
   run-not : {s : State} → Kept t s → Under (round_loop t) s → (es : List Event) → noted 12 (answers_of s es) ≡ false
   unfolding noted answers_of
   run-not k u [] = refl
-  run-not {s} k u (e ∷ es) = rw (step-not s e u) (run-not (kept_step t k e) (under-step h k u e) es)
+  run-not {s = s} k u (e ∷ es) = rw (step-not s e u) (run-not {s = (step_of s e).state} (kept_step t k e) (under-step h k u e) es)
 
   run-unbarred : {s : State} → Kept t s → Under (round_loop t) s → (es : List Event) → barred_in step_of s es ≡ false
   unfolding some_event
   run-unbarred k u [] = refl
-  run-unbarred {s} k u (e ∷ es) = rw (step-unbarred s e u) (run-unbarred (kept_step t k e) (under-step h k u e) es)
+  run-unbarred {s = s} k u (e ∷ es) = rw (step-unbarred s e u) (run-unbarred {s = (step_of s e).state} (kept_step t k e) (under-step h k u e) es)
 
 -- 12 CANNOT OCCUR WHILE A ROUND LOOP IS SET
 pub no-twelve : NeverTwelve

@@ -1,11 +1,8 @@
 -- `decimal::digits_only` meets its contract. The invariant: the bytes from i on are all digits exactly where all bytes are. The measure is what is left.
-use Prim.Native.Nat.{◌-◌, ◌≤◌}
-use mathlib.Core.Path.{◌≡◌, refl, sym, ◌∙◌}
-use mathlib.Core.Logic.{⊎_elim}
+use mathlib.Core.Path.{refl, sym, ◌∙◌}
 use native.Mathlib.Omega.{arith}
-use lib.ListN.{length, get_or, drop}
-use borrow.Author.Tests.{le-leb, lt-leb, ltb-true, ltb-false}
-use Rattle.decimal.specs.ByteSteps.{all_digits}
+use lib.ListN.{get_or}
+use borrow.Author.Tests.{le-leb, lt-leb, ltb-false}
 use Rattle.decimal.proofs.Steps.{all_drop, all_end}
 use Rattle.decimal.proofs.digits_only.Goals as goal
 use Rattle.decimal.proofs.digits_only.Goals.{then-b-lt48-via-then-b-lt48, then-b-lt48-via-else-b-lt48+then-b-gt57}

@@ -8,7 +8,6 @@ use Rattle.integers.specs.IntLaws.{ints, fit}
 use Rattle.decimal.specs.ByteSteps.{is_natural}
 use Rattle.decimal.specs.ByteLaws.{pass-range}
 use Rattle.decimal.specs.ParseLaws.{negative-read, negative-malformed, minus-zero-malformed}
-use borrow.Author.Rules.{rules}
 use Rattle.decimal.proofs.negative.Goals as goal
 
 pub value-n-requires : goal.value-n-requires

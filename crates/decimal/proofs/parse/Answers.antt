@@ -13,7 +13,6 @@ use Rattle.decimal.specs.ByteSteps.{is_natural}
 use Rattle.decimal.specs.ByteLaws.{pass-range}
 use Rattle.decimal.specs.ParseLaws.{empty-malformed, natural-read, natural-malformed}
 use Rattle.decimal.proofs.Steps.{rest_all, by_first}
-use borrow.Author.Rules.{rules}
 use Rattle.decimal.proofs.parse.Goals as goal
 
 pub returns-then-s-eq0 : goal.returns-then-s-eq0

@@ -1,6 +1,5 @@
 -- `decimal::places` meets its contract. The invariant: top is 10 ^ k, and n has at least k digits. The measure is what is left of the digits.
-use Prim.Native.Nat.{◌^◌, ◌-◌, ◌≤◌, ◌<◌}
-use mathlib.Core.Path.{◌≡◌}
+use Prim.Native.Nat.{◌<◌}
 use native.Mathlib.Nat.{pow-suc}
 use native.Mathlib.Numerals.{add-one}
 use native.Mathlib.Omega.{arith}

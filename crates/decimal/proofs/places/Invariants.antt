@@ -1,12 +1,8 @@
 -- `decimal::places` meets its contract. The invariant: top is 10 ^ k, and n has at least k digits. The measure is what is left of the digits.
-use Prim.Native.Nat.{◌^◌, ◌-◌, ◌≤◌, ◌<◌}
+use Prim.Native.Nat.{◌^◌, ◌-◌, ◌≤◌}
 use mathlib.Core.Path.{◌≡◌}
-use native.Mathlib.Nat.{pow-suc}
-use native.Mathlib.Numerals.{add-one}
-use native.Mathlib.Omega.{arith}
 use lib.ListN.{length}
 use Rattle.decimal.specs.Decimal.{digits_of}
-use Rattle.decimal.specs.DigitLaws.{digits-some, digits-few, digits-within, digits-beyond}
 use Rattle.decimal.proofs.places.Given as goal
 
 abbrev pub invariant-loop-top : goal.invariant-loop-top

@@ -1,11 +1,9 @@
 -- `decimal::spell` meets its contract. The invariant: i digits, those of the rest, are left to write, and before what stands from i on they give what is to be written.
 -- The measure is the rest.
-use Prim.Native.Nat.{◌-◌, ◌≤◌}
-use mathlib.Core.Path.{◌≡◌, refl, ◌∙◌}
-use mathlib.Core.List.{◌++◌}
+use Prim.Native.Nat.{◌-◌}
+use mathlib.Core.Path.{refl, ◌∙◌}
 use native.Mathlib.Omega.{arith}
-use lib.ListN.{length, drop, length-set}
-use Rattle.decimal.specs.Decimal.{largest, digits_of}
+use lib.ListN.{length-set}
 use Rattle.decimal.specs.DigitLaws.{shorter, digits-some, rest-small}
 use Rattle.decimal.proofs.Steps.{digits-count, spell-more, spell_last}
 use Rattle.decimal.proofs.spell.Goals as goal

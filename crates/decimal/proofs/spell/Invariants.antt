@@ -1,12 +1,9 @@
 -- `decimal::spell` meets its contract. The invariant: i digits, those of the rest, are left to write, and before what stands from i on they give what is to be written.
-use Prim.Native.Nat.{◌-◌, ◌≤◌}
-use mathlib.Core.Path.{◌≡◌, refl, ◌∙◌}
+use Prim.Native.Nat.{◌≤◌}
+use mathlib.Core.Path.{◌≡◌}
 use mathlib.Core.List.{◌++◌}
-use native.Mathlib.Omega.{arith}
-use lib.ListN.{length, drop, length-set}
+use lib.ListN.{length, drop}
 use Rattle.decimal.specs.Decimal.{largest, digits_of}
-use Rattle.decimal.specs.DigitLaws.{shorter, digits-some, rest-small}
-use Rattle.decimal.proofs.Steps.{digits-count, spell-more, spell_last}
 use Rattle.decimal.proofs.spell.Given as goal
 
 abbrev pub invariant-loop-rest : goal.invariant-loop-rest

@@ -3,8 +3,8 @@ use Prim.Native.Nat.{◌+◌, ◌-◌, ◌*◌, ◌≤◌}
 use mathlib.Core.Path.{◌≡◌, refl, sym, ◌∙◌}
 use mathlib.Core.Bool.{true}
 use native.Mathlib.Omega.{arith}
-use lib.ListN.{length, get_or, drop}
-use Rattle.decimal.specs.Decimal.{largest, value_from}
+use lib.ListN.{get_or, drop}
+use Rattle.decimal.specs.Decimal.{largest}
 use Rattle.decimal.specs.ByteSteps.{is_digit}
 use Rattle.decimal.specs.DigitLaws.{digit-from, value_grows}
 use Rattle.decimal.specs.ByteLaws.{natural-parts, pass-range}

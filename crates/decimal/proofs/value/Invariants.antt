@@ -1,14 +1,8 @@
 -- `decimal::value` meets its contract. The invariant: v, followed by the bytes from i on, is what all bytes stand for. The measure is what is left.
-use Prim.Native.Nat.{◌+◌, ◌-◌, ◌*◌, ◌≤◌}
-use mathlib.Core.Path.{◌≡◌, refl, sym, ◌∙◌}
-use mathlib.Core.Bool.{true}
-use native.Mathlib.Omega.{arith}
-use lib.ListN.{length, get_or, drop}
-use Rattle.decimal.specs.Decimal.{largest, value_from}
-use Rattle.decimal.specs.ByteSteps.{is_digit}
-use Rattle.decimal.specs.DigitLaws.{digit-from, value_grows}
-use Rattle.decimal.specs.ByteLaws.{natural-parts, pass-range}
-use Rattle.decimal.proofs.Steps.{all-at, value-drop, value-end}
+use Prim.Native.Nat.{◌-◌, ◌≤◌}
+use mathlib.Core.Path.{◌≡◌}
+use lib.ListN.{length, drop}
+use Rattle.decimal.specs.Decimal.{value_from}
 use Rattle.decimal.proofs.value.Given as goal
 
 abbrev pub invariant-loop-i : goal.invariant-loop-i

@@ -12,7 +12,6 @@ use Rattle.decimal.specs.Decimal.{digits_of}
 use Rattle.decimal.specs.DigitLaws.{digits-few}
 use Rattle.decimal.specs.DecimalLaws.{text-natural, text-negative}
 use Rattle.decimal.proofs.Steps.{rest_all, signed}
-use borrow.Author.Rules.{rules}
 use Rattle.decimal.proofs.write.Goals as goal
 
 pub overflow_sub-n : goal.overflow_sub-n

@@ -1,7 +1,6 @@
 -- `decimal::write_digits` meets its contract: a number of at most 18 digits has room, and `spell` puts the digits that `places` counts.
 use native.Mathlib.Omega.{arith}
 use Rattle.decimal.specs.DigitLaws.{digits-few}
-use borrow.Author.Rules.{rules}
 use Rattle.decimal.proofs.write_digits.Goals as goal
 
 pub spell-requires : goal.spell-requires

@@ -1,13 +1,12 @@
 -- `inputs::act` meets its contract. The invariant: the first i inputs have acted on what the call was given, where they act, and left their marks. The measure is what is left of the three.
-use Prim.Native.Nat.{◌≤◌, ◌-◌}
 use mathlib.Core.Path.{◌≡◌, refl, ◌∙◌}
-use mathlib.Core.Logic.{⊎_elim}
 use native.Mathlib.Omega.{arith}
 use native.Mathlib.Numerals.{add-one}
-use Rattle.inputs.specs.Commands.{acted, left_by}
+use Rattle.inputs.specs.Commands.{acted}
 use Rattle.inputs.specs.Levels.{edge_at, input_of, marks_at}
 use Rattle.inputs.proofs.CommandLaws.{inputs_of, all-inputs, marks_up_to, all-marks, good-inputs, good-commands}
 use Rattle.state.specs.State.{state_of}
+use Rattle.inputs.proofs.act.Goals.{then-edge, else-edge}
 use Rattle.inputs.proofs.act.Goals as goal
 
 pub loop-i-init : goal.loop-i-init
@@ -35,10 +34,12 @@ unfolding inputs_of input_of edge_at marks_up_to marks_at
 loop-i-preserved c = let l = c.loop-i in
     let e = c.edge.ensures in (
       omega arith,
-      ⊎_elim
-          (λ w. (rw (add-one, ← l.invariant.1.0, ← e, w.0.true, w.3, w.4) w.2.ensures.0, rw (add-one, ← l.invariant.1.0, ← e, w.0.true, w.4, ← l.invariant.1.1) w.2.ensures.1))
-          (λ w. (rw (add-one, ← l.invariant.1.0, ← e, w.0.false, w.1, w.2), rw (add-one, ← l.invariant.1.0, ← e, w.0.false, w.2, ← l.invariant.1.1)))
-          c.if-edge.branch,
+      elim c.if-edge.branch [
+        | then-edge w ↦
+            (rw (add-one, ← l.invariant.1.0, ← e, w.if-edge.true, w.t-is, w.x-is) w.input-x.ensures.is, rw (add-one, ← l.invariant.1.0, ← e, w.if-edge.true, w.x-is, ← l.invariant.1.1) w.input-x.ensures.marks)
+        | else-edge w ↦
+            (rw (add-one, ← l.invariant.1.0, ← e, w.if-edge.false, w.t-is, w.x-is), rw (add-one, ← l.invariant.1.0, ← e, w.if-edge.false, w.x-is, ← l.invariant.1.1))
+      ],
     )
 
 pub returns : goal.returns

@@ -1,13 +1,8 @@
 -- `inputs::act` meets its contract. The invariant: the first i inputs have acted on what the call was given, where they act, and left their marks. The measure is what is left of the three.
 use Prim.Native.Nat.{◌≤◌, ◌-◌}
-use mathlib.Core.Path.{◌≡◌, refl, ◌∙◌}
-use mathlib.Core.Logic.{⊎_elim}
-use native.Mathlib.Omega.{arith}
-use native.Mathlib.Numerals.{add-one}
-use Rattle.inputs.specs.Commands.{acted, left_by}
-use Rattle.inputs.specs.Levels.{edge_at, input_of, marks_at}
-use Rattle.inputs.proofs.CommandLaws.{inputs_of, all-inputs, marks_up_to, all-marks, good-inputs, good-commands}
-use Rattle.state.specs.State.{state_of}
+use mathlib.Core.Path.{◌≡◌}
+use Rattle.inputs.specs.Commands.{left_by}
+use Rattle.inputs.proofs.CommandLaws.{inputs_of, marks_up_to}
 use Rattle.inputs.proofs.act.Given as goal
 
 abbrev pub invariant-loop-i : goal.invariant-loop-i

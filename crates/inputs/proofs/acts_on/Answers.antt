@@ -1,5 +1,4 @@
 -- `inputs::acts_on` meets its contract: a rise or a fall, by the config.
-use borrow.Author.Rules.{rules}
 use Rattle.inputs.specs.Levels.{acts_on}
 use Rattle.inputs.proofs.acts_on.Goals as goal
 

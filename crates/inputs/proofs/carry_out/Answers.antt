@@ -1,5 +1,4 @@
 -- `inputs::carry_out` meets its contract: each arm of the match is a clause of the definition, and the reset's alone brings marks.
-use borrow.Author.Rules.{rules}
 use borrow.Author.Tests.{eq-eqb}
 use mathlib.Core.Path.{ap}
 use Rattle.state.specs.declared.State.{State}
@@ -18,7 +17,7 @@ teach-requires c = let b = c in
 
 pub returns-in-None : goal.returns-in-None
 unfolding carried_out marks_after
-returns-in-None c = let told = c.enum_told-1.given.1 in
+returns-in-None c = let told = c.in-None.is in
     record {
       is = rw (told, c.kept.ensures);
       marks = rw (told, c.kept.ensures);

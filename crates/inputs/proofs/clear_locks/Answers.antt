@@ -1,5 +1,4 @@
 -- `inputs::clear_locks` meets its contract.
-use borrow.Author.Rules.{rules}
 use Rattle.inputs.proofs.clear_locks.Goals as goal
 
 pub returns : goal.returns

@@ -1,5 +1,4 @@
 -- `inputs::command` meets its contract: refused with its number, or carried out; only a reset carried out brings marks.
-use borrow.Author.Rules.{rules}
 use borrow.Author.Tests.{eq-eqb, ne_eqb}
 use mathlib.Core.Path.{sym, ◌∙◌}
 use Rattle.inputs.specs.Commands.{command_of}

@@ -1,5 +1,4 @@
 -- `inputs::edge` meets its contract: the config of the input, and its level before and after.
-use borrow.Author.Rules.{rules}
 use Rattle.inputs.proofs.edge.Goals as goal
 
 pub returns : goal.returns

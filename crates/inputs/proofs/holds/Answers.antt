@@ -1,5 +1,4 @@
 -- `inputs::holds` meets its contract: an input set to the freeze, while it lasts.
-use borrow.Author.Rules.{rules}
 use Rattle.inputs.specs.Freeze.{freezes}
 use Rattle.inputs.proofs.holds.Goals as goal
 

@@ -1,5 +1,4 @@
 -- `inputs::input` meets its contract: the command of its action, on what is left so far, and its marks.
-use borrow.Author.Rules.{rules}
 use Rattle.inputs.proofs.CommandLaws.{input-aimed}
 use Rattle.inputs.proofs.input.Goals as goal
 

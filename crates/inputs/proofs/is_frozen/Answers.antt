@@ -1,5 +1,4 @@
 -- `inputs::is_frozen` meets its contract: the three inputs, one after the other.
-use borrow.Author.Rules.{rules}
 use Rattle.inputs.specs.Freeze.{frozen}
 use Rattle.inputs.proofs.is_frozen.Goals as goal
 

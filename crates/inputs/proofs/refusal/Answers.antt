@@ -1,11 +1,10 @@
 -- `inputs::refusal` meets its contract: each arm of the match is a clause of the definition.
-use borrow.Author.Rules.{rules}
 use Rattle.inputs.specs.Commands.{refusal_of}
 use Rattle.inputs.proofs.refusal.Goals as goal
 
 pub returns-in-None : goal.returns-in-None
 unfolding refusal_of
-returns-in-None c = rw c.enum_told-1.given.1
+returns-in-None c = rw c.in-None.is
 
 pub returns-in-Reset : goal.returns-in-Reset
 unfolding refusal_of

@@ -1,5 +1,4 @@
 -- `inputs::reset` meets its contract: the offset stored is what the result starts from, the table stays valid, and the result is worked out under it.
-use borrow.Author.Rules.{rules}
 use mathlib.Core.Path.{◌≡◌}
 use native.Mathlib.Omega.{arith}
 use lib.IntN.{pos}

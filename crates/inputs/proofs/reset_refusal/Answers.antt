@@ -1,5 +1,4 @@
 -- `inputs::reset_refusal` meets its contract: its tests are the definition's, in their order.
-use borrow.Author.Rules.{rules}
 use borrow.Author.Tests.{lt-ltb, le-ltb}
 use Rattle.inputs.specs.Commands.{reset_refusal}
 use Rattle.inputs.proofs.reset_refusal.Goals as goal

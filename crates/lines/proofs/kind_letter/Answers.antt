@@ -3,7 +3,7 @@ use borrow.Author.Rules.{rules}
 use Rattle.lines.proofs.kind_letter.Goals as goal
 
 pub returns-in-Telegram : goal.returns-in-Telegram
-returns-in-Telegram c = rw c.enum_told-1.given.1
+returns-in-Telegram c = rw c.in-Telegram.is
 
 pub returns-in-Levels : goal.returns-in-Levels
 returns-in-Levels c = rw c.in-Levels.is

@@ -7,7 +7,7 @@ use Rattle.lines.proofs.put_analog.Goals as goal
 
 pub returns-in-Off : goal.returns-in-Off
 unfolding analog_text
-returns-in-Off c = rw c.enum_told-1.given.1 c.put_bytes.ensures
+returns-in-Off c = rw c.in-Off.is c.put_bytes.ensures
 
 pub returns-in-Volts : goal.returns-in-Volts
 unfolding analog_text

@@ -16,6 +16,6 @@ unfolding after_taken text_taken answer_of
 returns c = let s = c.advance-o.ensures.is in
     let n = c.next_count-count.ensures in
     record {
-      is = rw (n, ← s);
+      is = (rw (n, ← s));
       text = rw (n, s) at c.event_line-end.ensures;
     }

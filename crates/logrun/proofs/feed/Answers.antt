@@ -10,8 +10,8 @@ pub returns : goal.returns
 returns c = let w = c.words-r.ensures in
     let e = c.course_of.ensures in
     record {
-      is = rw (c.progress_of.ensures, w.0, e);
-      text = rw e at w.1.0;
-      ready = rw c.progress_of.ensures w.1.1.0;
-      within = w.1.1.1;
+      is = (rw (c.progress_of.ensures, w.is, e));
+      text = rw e at w.text;
+      ready = rw c.progress_of.ensures w.ready;
+      within = w.within;
     }

@@ -13,7 +13,7 @@ returns-then-bytes-lt-TABLE_BYTES c =    let start = c in
     }
 
 pub returns : goal.returns
-returns c =record {
+returns c = record {
       is = c.load-2.ensures.is ∙ rw c.table_of-t.ensures;
       valid = c.load-2.ensures.valid;
     }

@@ -18,10 +18,10 @@ returns-then-l-eq0 c = let begun = c.start-p.ensures in
     let e = eq-eqb _ 0 (rw l at c.if-l-eq0.true) in
     let put = c.header_line-end.ensures in
     record {
-      is = begun.0 ∙ rw l;
+      is = begun.is ∙ rw l;
       loads = sym e;
       text = rw e put;
-      ready = begun.1;
+      ready = begun.ready;
       within = put-within put longest header-line-at-most (omega arith);
     }
 
@@ -35,11 +35,11 @@ unfolding opening_text
 returns c = let begun = c.start-p.ensures in
     let l = c.load-l.ensures.is in
     let e = ne_eqb _ 0 (rw l at c.if-l-eq0.false) in
-    let put = rw l at c.Load-Line.ensures in
+    let put = rw l at c.load_line-end.ensures in
     record {
-      is = begun.0 ∙ rw l;
+      is = begun.is ∙ rw l;
       loads = sym e;
       text = rw e put;
-      ready = begun.1;
+      ready = begun.ready;
       within = put-within put longest (load-line-at-most _ _) (omega arith);
     }

@@ -17,12 +17,18 @@ returns-then-next-full c = let start = c in
     let f = c.feed-f.ensures in
     let p = start.args.p in
     let bytes = start.args.bytes.now in
-    let e : goes_on start.args.full p bytes ≡ true = rw (← f.0) c.if-next-full.true in
-    (f.0, (sym e, (rw (piece-goes start.args.full p bytes e) f.1.0, f.1.1)))
+    let e : goes_on start.args.full p bytes ≡ true = rw (← f.is) c.if-next-full.true in
+    record {
+      is = f.is;
+      goes = sym e;
+      text = rw (piece-goes start.args.full p bytes e) f.text;
+      ready = f.ready;
+      within = f.within;
+    }
 
 pub finish-last-requires : goal.finish-last-requires
 finish-last-requires c = let start = c in
-    let put = c.feed-f.ensures.text.0 in
+    let put = c.feed-f.ensures.text in
     let bytes = start.args.bytes.now in
     put-room put (32 * length bytes) longest (lines-at-most start.args.p bytes) (omega (arith, start.requires.1))
 
@@ -32,13 +38,13 @@ returns c = let start = c in
     let f = c.feed-f.ensures in
     let p = start.args.p in
     let bytes = start.args.bytes.now in
-    let e : goes_on start.args.full p bytes ≡ false = rw (← f.0) c.if-next-full.false in
-    let last = rw f.0 at c.finish-last.ensures.text in
-    let put = put_both f.1.0 last (omega (arith, lines-at-most p bytes, start.requires.1)) in
+    let e : goes_on start.args.full p bytes ≡ false = rw (← f.is) c.if-next-full.false in
+    let last = rw f.is at c.finish-last.ensures.text in
+    let put = put_both f.text last (omega (arith, lines-at-most p bytes, start.requires.1)) in
     record {
-      is = f.0;
+      is = f.is;
       goes = sym e;
       text = rw (piece-ends start.args.full p bytes e) put;
-      ready = f.1.1.0;
+      ready = f.ready;
       within = c.finish-last.ensures.within;
     }

@@ -4,7 +4,7 @@ use borrow.Author.Rules.{rules}
 use Rattle.logrun.proofs.start.Goals as goal
 
 pub returns : goal.returns
-returns c =record {
+returns c = record {
       is = rw c.fresh.ensures;
       ready = record { state = c.requires; count = omega arith };
     }

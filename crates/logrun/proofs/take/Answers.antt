@@ -11,7 +11,7 @@ returns-then-c-ne0 c = let start = c in
     let p = progress_of start.args.t.now start.args.c in
     let e = ne_eqb p.refusal 0 c.if-c-ne0.true in
     record {
-      is = rw (fed-ended p start.args.w e);
+      is = (rw (fed-ended p start.args.w e));
       text = rw (text-ended p start.args.w e) (put-none start.args.out.now start.args.at);
       ready = start.requires.0;
     }
@@ -26,9 +26,9 @@ returns-in-Happened c = let start = c in
     let g = text-by p w s.result _ e s.ensures c.in-Happened.is in
     let v = c.event.ensures in
     record {
-      is = rw f v.0;
-      text = rw g v.1;
-      ready = rw (v.0, ← f) (word-ready start.requires.0 w);
+      is = rw f v.is;
+      text = rw g v.text;
+      ready = rw (v.is, ← f) (word-ready start.requires.0 w);
     }
 
 pub returns-in-Nothing : goal.returns-in-Nothing
@@ -38,10 +38,10 @@ returns-in-Nothing c = let start = c in
     let w = start.args.w in
     let s = c.take-s in
     let e = eq-eqb p.refusal 0 c.if-c-ne0.false in
-    let f = fed_by p w s.result _ e s.ensures c.enum_told-1.given.1 in
-    let g = text-by p w s.result _ e s.ensures c.enum_told-1.given.1 in
+    let f = fed_by p w s.result _ e s.ensures c.in-Nothing.is in
+    let g = text-by p w s.result _ e s.ensures c.in-Nothing.is in
     record {
-      is = rw (f, c.quiet.ensures);
+      is = (rw (f, c.quiet.ensures));
       text = rw (g, c.quiet.ensures) (put-none start.args.out.now start.args.at);
       ready = rw c.quiet.ensures (record { state = start.requires.0.state; count = start.requires.0.count });
     }
@@ -56,7 +56,7 @@ returns-in-Refused c = let start = c in
     let f = fed_by p w s.result _ e s.ensures c.in-Refused.is in
     let g = text-by p w s.result _ e s.ensures c.in-Refused.is in
     record {
-      is = rw (f, c.quiet-in-Refused.ensures);
+      is = (rw (f, c.quiet-in-Refused.ensures));
       text = rw (g, c.quiet-in-Refused.ensures) (put-none start.args.out.now start.args.at);
       ready = rw c.quiet-in-Refused.ensures (record { state = start.requires.0.state; count = start.requires.0.count });
     }

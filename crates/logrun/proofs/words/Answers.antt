@@ -64,12 +64,12 @@ loop-i-preserved c = let turn = c in
     let p = progress_of l.t l.course in
     let m = word-at-most p read.result in
     let room : l.end + length (word_text p read.result) ≤ length l.out = omega (arith, l.invariant.2, l.invariant.3, start.requires.1) in
-    let put = w.ensures.1.0 in
-    let f = fed-more p _ bytes l.out _ l.i l.end _ read.result put room w.ensures.0 read.ensures more in
-    let t = text-more p _ bytes l.out _ l.i l.end _ read.result put room w.ensures.0 read.ensures more in
-    let b = behind_more p _ bytes l.out _ l.i l.end _ read.result put room w.ensures.0 read.ensures more in (
+    let put = w.ensures.text in
+    let f = fed-more p _ bytes l.out _ l.i l.end _ read.result put room w.ensures.is read.ensures more in
+    let t = text-more p _ bytes l.out _ l.i l.end _ read.result put room w.ensures.is read.ensures more in
+    let b = behind_more p _ bytes l.out _ l.i l.end _ read.result put room w.ensures.is read.ensures more in (
       more,
-      w.ensures.1.1,
+      w.ensures.ready,
       omega (arith, put.ends, l.invariant.2),
       put-length put room ∙ l.invariant.3,
       l.invariant.4 ∙ f,

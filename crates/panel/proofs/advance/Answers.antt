@@ -1,5 +1,4 @@
 -- `panel::advance` meets its contract: switching and display follow where the event has them, and a step keeps the state valid.
-use borrow.Author.Rules.{rules}
 use mathlib.Core.Bool.{true}
 use mathlib.Core.List.{List}
 use mathlib.Core.Path.{◌≡◌, sym, subst, ap, ◌∙◌}
@@ -17,23 +16,26 @@ use Rattle.panel.proofs.ValidLaws.{good-step}
 use Rattle.panel.proofs.advance.Goals as goal
 
 -- an answer that is the step's leaves a valid state
-pub promised : (s : State) (e : Event) (r : Answer) → Good s → r ≡ step_of s e → (r ≡ step_of s e) × Good r.state
-promised s e r g is = (is, subst (λ (a : Answer). Good a.state) (sym is) (good-step g e))
+promised : (s : State) (e : Event) (r : Answer) → Good s → r ≡ step_of s e → Good r.state
+promised s e r g is = subst (λ (a : Answer). Good a.state) (sym is) (good-step g e)
 
 -- an event with which switching and display follow
-pub ended : (t : List ℤ) (b : Begun) (l : Live) (a : Answer) → b.settles ≡ true → state_of t l ≡ settled_of (state_of t b.live) → answer_after t b ≡ a →
+ended : (t : List ℤ) (b : Begun) (l : Live) (a : Answer) → b.settles ≡ true → state_of t l ≡ settled_of (state_of t b.live) → answer_after t b ≡ a →
     answer_of (state_of t l) b.note b.halves ≡ a
 ended t b l a on s e = ap (λ (x : State). answer_of x b.note b.halves) s ∙ (rw on at e)
 
 pub returns-then-b : goal.returns-then-b
 unfolding answer_of
-returns-then-b c = let test = c in
-    let b = test in
-    let a = b in
-    promised _ a.args.e _ a.requires (ended _ b.begin-b.result c.settle-last.result _ test.if-b.true c.settle-last.ensures b.begin-b.ensures)
+returns-then-b c = let is = ended _ c.begin-b.result c.settle-last.result _ c.if-b.true c.settle-last.ensures c.begin-b.ensures in
+    record {
+      is = is;
+      valid = promised _ c.args.e _ c.requires is;
+    }
 
 pub returns : goal.returns
 unfolding answer_of
-returns c = let b = c in
-    let a = b in
-    promised _ a.args.e _ a.requires (rw c.if-b.false at b.begin-b.ensures)
+returns c = let is = rw c.if-b.false at c.begin-b.ensures in
+    record {
+      is = is;
+      valid = promised _ c.args.e _ c.requires is;
+    }

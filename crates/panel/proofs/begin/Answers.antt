@@ -1,5 +1,4 @@
 -- `panel::begin` meets its contract: the event's own function answers.
-use borrow.Author.Rules.{rules}
 use Rattle.panel.specs.Step.{on_tick, step_of}
 use Rattle.panel.proofs.begin.Goals as goal
 

@@ -1,5 +1,4 @@
 -- `panel::build` meets its contract: the layout of a valid table is sound.
-use borrow.Author.Rules.{rules}
 use Rattle.settings.specs.SettingsLaws.{layout-sound}
 use Rattle.panel.proofs.build.Goals as goal
 

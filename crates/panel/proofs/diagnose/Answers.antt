@@ -1,5 +1,4 @@
 -- `panel::diagnose` meets its contract: the layout of a valid table is sound, and its bits per turn are 10 to 16.
-use borrow.Author.Rules.{rules}
 use native.Mathlib.Omega.{arith}
 use Rattle.parameters.proofs.RangeLaws.{bits-per-turn-range}
 use Rattle.settings.specs.SettingsLaws.{layout-sound}

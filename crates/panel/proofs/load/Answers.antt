@@ -1,5 +1,4 @@
 -- `panel::load` meets its contract: whatever is loaded, the table is valid, and its fresh state too.
-use borrow.Author.Rules.{rules}
 use Rattle.parameters.proofs.ValidLaws.{load-valid}
 use Rattle.panel.specs.Load.{loaded_of}
 use Rattle.state.proofs.ValidLaws.{good-fresh}

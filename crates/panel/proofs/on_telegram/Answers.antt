@@ -1,5 +1,4 @@
 -- `panel::on_telegram` meets its contract: refused it leaves the old values, else what is received, with its marks.
-use borrow.Author.Rules.{rules}
 use borrow.Author.Tests.{not-true, not-false}
 use Rattle.reading.specs.Reading.{marked_of}
 use Rattle.state.specs.State.{reread_of, received_of}

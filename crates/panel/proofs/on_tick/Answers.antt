@@ -1,5 +1,4 @@
 -- `panel::on_tick` meets its contract: the pulses are used up, the record is brought up to date, and there are no marks.
-use borrow.Author.Rules.{rules}
 use Rattle.panel.proofs.on_tick.Goals as goal
 
 pub recorded-next-requires : goal.recorded-next-requires

@@ -1,5 +1,4 @@
 -- `panel::outputs` meets its contract.
-use borrow.Author.Rules.{rules}
 use Rattle.panel.proofs.outputs.Goals as goal
 
 pub returns : goal.returns

@@ -1,7 +1,8 @@
 -- `panel::settle` meets its contract: the switches of the result, and the shown value.
 use borrow.Author.Rules.{rules}
+use mathlib.Core.Path.{◌≡◌}
 use mir.Syntax.{w32}
-use Rattle.integers.specs.IntLaws.{back_at}
+use Rattle.integers.specs.IntLaws.{back_at, bk}
 use Rattle.panel.specs.Step.{switched_of, displayed_of}
 use Rattle.panel.proofs.settle.Goals as goal
 
@@ -10,8 +11,8 @@ unfolding switched_of displayed_of
 returns c = let sh = c in
     let sw = sh in
     let l = sw.args.l in
-    let r = back_at w32 l.reading.result sw.struct_told-1.given.0.1 in
-    let h = back_at w32 l.shown sh.struct_told-2-1.given.1.1.1.1.0.1 in
+    let r : bk w32 l.reading.result ≡ l.reading.result = search rules in
+    let h : bk w32 l.shown ≡ l.shown = search rules in
     rw (
       c.settled.ensures,
       back_at w32 sh.shown_after-shown.result sh.shown_after-shown.type_inv,

@@ -1,5 +1,4 @@
 -- `panel::shown_after` meets its contract: held, or the result.
-use borrow.Author.Rules.{rules}
 use mir.Facts.{to_z-of_z}
 use Rattle.panel.specs.Step.{shown_after}
 use Rattle.panel.proofs.shown_after.Goals as goal

@@ -1,5 +1,4 @@
 -- `panel::switches_after` meets its contract: before the first telegram nothing switches.
-use borrow.Author.Rules.{rules}
 use borrow.Author.Tests.{not-true, not-false}
 use mir.Facts.{to_z-of_z}
 use Rattle.panel.specs.Step.{switches_after}

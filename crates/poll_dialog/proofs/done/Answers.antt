@@ -6,7 +6,7 @@ use Rattle.poll_dialog.proofs.done.Goals as goal
 
 pub returns-in-Blank : goal.returns-in-Blank
 unfolding after_asked asked_text
-returns-in-Blank c = let told = c.enum_told-1.given.1 in
+returns-in-Blank c = let told = c.in-Blank.is in
     record {
       is = rw told;
       text = rw told (put-none _ 0);

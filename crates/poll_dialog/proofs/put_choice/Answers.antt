@@ -12,4 +12,4 @@ returns-in-Panel c = let x = c in
 pub returns-in-Nobody : goal.returns-in-Nobody
 unfolding choice_line spoken
 returns-in-Nobody c = let x = c in
-    rw x.enum_told-1.given.1 x.put_bytes.ensures
+    rw x.in-Nobody.is x.put_bytes.ensures

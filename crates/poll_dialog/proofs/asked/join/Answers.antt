@@ -11,4 +11,4 @@ returns-in-Count c = let v = c in
 pub returns-in-Missing : goal.returns-in-Missing
 unfolding join_in
 returns-in-Missing c = let v = c in
-    rw (← v.only.ensures, ← v.natural-n.ensures, c.enum_told-1.given.1)
+    rw (← v.only.ensures, ← v.natural-n.ensures, c.in-Missing.is)

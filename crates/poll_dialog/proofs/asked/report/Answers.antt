@@ -14,7 +14,7 @@ pub returns-in-Missing-v : goal.returns-in-Missing-v
 unfolding report_in
 returns-in-Missing-v c = let n = c in
     let s = n in
-    rw (first-of _, ← s.word.ensures, ← s.natural-n.ensures, n.in-Count.is, others-of _, ← s.rest.ensures, ← s.only.ensures, ← s.natural-v.ensures, c.enum_told-1.given.1)
+    rw (first-of _, ← s.word.ensures, ← s.natural-n.ensures, n.in-Count.is, others-of _, ← s.rest.ensures, ← s.only.ensures, ← s.natural-v.ensures, c.in-Missing-v.is)
 
 pub returns-in-Missing : goal.returns-in-Missing
 unfolding report_in

@@ -23,5 +23,4 @@ returns-in-3 c = rw c.in-3.is c.put_bytes-in-3.ensures
 
 pub returns-in_default : goal.returns-in_default
 returns-in_default c = let m = c in
-    let r = m.match.rest in
-    rw (other-message m.args.reason (omega (arith, r.0.0.0.1, r.0.0.1, r.0.1, r.1))) c.put_bytes-in_default.ensures
+    rw (other-message m.args.reason (omega arith)) c.put_bytes-in_default.ensures
