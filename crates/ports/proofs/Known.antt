@@ -1,5 +1,5 @@
 -- Known bytes over two moves, and the bytes of two pieces beside one another.
-use Rattle.std.proofs.Common.{◌≡◌, ℕ, ◌+◌, ◌-◌, ◌≤◌, List, ◌++◌, None, Some, sym, ap, ◌∙◌, append_assoc, arith, length, take, drop, slice_range, le_refl, drop_at, length-take-le}
+use Rattle.std.proofs.Common.{◌≡◌, ℕ, ◌+◌, ◌-◌, ◌≤◌, List, ◌++◌, None, Some, sym, ap, ◌∙◌, append_assoc, length, take, drop, le_refl, drop_at, length-take-le}
 use Rattle.std.proofs.lemmas.List.{take_rest}
 use Rattle.std.proofs.lemmas.Slice.{take-put_mid_below}
 use Rattle.std.specs.Io.KnownBytes.{Appends, Consumes}

@@ -1,5 +1,4 @@
 -- `bench_pick::repeated` is safe and ends. The measure is the number of rounds left.
-use Rattle.std.proofs.Common.{rules}
 use Rattle.bench_pick.proofs.repeated.Given as goal
 
 abbrev pub invariant-loop-left : goal.invariant-loop-left

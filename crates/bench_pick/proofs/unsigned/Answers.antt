@@ -1,5 +1,5 @@
 -- `bench_pick::unsigned` is safe: what is not negative fits.
-use Rattle.std.proofs.Common.{arith, rules}
+use Rattle.std.proofs.Common.{arith}
 use Rattle.integers.specs.IntLaws.{ints, fit}
 use Rattle.bench_pick.proofs.unsigned.Goals as goal
 

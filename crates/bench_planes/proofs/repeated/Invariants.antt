@@ -1,5 +1,5 @@
 -- `bench_planes::repeated` is safe and ends. The measure is the number of rounds left.
-use Rattle.std.proofs.Common.{◌≡◌, length, rules}
+use Rattle.std.proofs.Common.{◌≡◌, length}
 use Rattle.bench_planes.proofs.repeated.Given as goal
 
 abbrev pub invariant-loop-left : goal.invariant-loop-left

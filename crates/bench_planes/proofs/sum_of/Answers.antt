@@ -1,5 +1,4 @@
 -- `bench_planes::sum_of` is safe and ends. The measure is what is left of the words.
-use Rattle.std.proofs.Common.{◌-◌, length, rules}
 use Rattle.bench_planes.proofs.sum_of.Goals as goal
 
 pub loop-i-init : goal.loop-i-init

@@ -1,5 +1,5 @@
 -- `bench_planes::sum_of` is safe and ends. The measure is what is left of the words.
-use Rattle.std.proofs.Common.{◌-◌, length, rules}
+use Rattle.std.proofs.Common.{◌-◌, length}
 use Rattle.bench_planes.proofs.sum_of.Given as goal
 
 abbrev pub invariant-loop-i : goal.invariant-loop-i

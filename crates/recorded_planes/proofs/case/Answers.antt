@@ -1,8 +1,6 @@
 -- `recorded_planes::case` is safe: the rooms have the list and two words more.
-use mathlib.Core.Path.{sym}
 use native.Mathlib.Omega.{arith}
 use lib.Seq.{length-take-le}
-use borrow.Author.Rules.{rules}
 use Rattle.recorded_planes.proofs.case.Goals as goal
 
 pub turned-requires : goal.turned-requires

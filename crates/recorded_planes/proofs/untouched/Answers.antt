@@ -1,7 +1,4 @@
 -- `recorded_planes::untouched` is safe and ends. The measure is what is left of the words.
-use Prim.Native.Nat.{◌-◌}
-use lib.ListN.{length}
-use borrow.Author.Rules.{rules}
 use Rattle.recorded_planes.proofs.untouched.Goals as goal
 
 pub loop-i-init : goal.loop-i-init

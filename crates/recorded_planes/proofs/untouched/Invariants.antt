@@ -1,7 +1,6 @@
 -- `recorded_planes::untouched` is safe and ends. The measure is what is left of the words.
 use Prim.Native.Nat.{◌-◌}
 use lib.ListN.{length}
-use borrow.Author.Rules.{rules}
 use Rattle.recorded_planes.proofs.untouched.Given as goal
 
 abbrev pub invariant-loop-i : goal.invariant-loop-i
