@@ -26,7 +26,7 @@ push-x-requires g c = omega (arith, c.loop-i.invariant.1)
 pub take-d-requires : goal.take-d-requires
 take-d-requires g c =
     let whole : length c.push-x.new.bytes ≡ most =
-    omega (arith, c.push-x.auto.0, c.loop-i.invariant.1) in
+    omega (arith, c.push-x.auto.bytes, c.loop-i.invariant.1) in
     omega (arith, whole)
 
 pub overflow_add-i : goal.overflow_add-i
@@ -40,7 +40,7 @@ loop-i-smaller g c = omega (arith, c.loop-i-test.true)
 pub loop-i-preserved : goal.loop-i-preserved
 loop-i-preserved g c =
     let whole : length c.push-x.new.bytes ≡ most =
-    omega (arith, c.push-x.auto.0, c.loop-i.invariant.1) in
+    omega (arith, c.push-x.auto.bytes, c.loop-i.invariant.1) in
     let push = c in
     let turn = push in
     let l = turn.loop-i in

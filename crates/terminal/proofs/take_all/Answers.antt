@@ -26,7 +26,7 @@ push-x-requires g c = omega (arith, c.loop-i.invariant.2)
 pub take-c-requires : goal.take-c-requires
 take-c-requires g c =
     let whole : length c.push-x.new.bytes ≡ most =
-    omega (arith, c.push-x.auto.0, c.loop-i.invariant.2) in
+    omega (arith, c.push-x.auto.bytes, c.loop-i.invariant.2) in
     (c.loop-i.invariant.0, omega (arith, whole))
 
 pub overflow_add-i : goal.overflow_add-i
@@ -40,7 +40,7 @@ loop-i-smaller g c = omega (arith, c.loop-i-test.true)
 pub loop-i-preserved : goal.loop-i-preserved
 loop-i-preserved g c =
     let whole : length c.push-x.new.bytes ≡ most =
-    omega (arith, c.push-x.auto.0, c.loop-i.invariant.2) in
+    omega (arith, c.push-x.auto.bytes, c.loop-i.invariant.2) in
     let push = c in
     let turn = push in
     let l = turn.loop-i in

@@ -22,7 +22,7 @@ push-x-requires g c = omega (arith, c.loop-i.invariant.2)
 pub take-sheet-requires : goal.take-sheet-requires
 take-sheet-requires g c =
     let whole : length c.push-x.new.bytes ≡ most =
-    omega (arith, c.push-x.auto.0, c.loop-i.invariant.2) in
+    omega (arith, c.push-x.auto.bytes, c.loop-i.invariant.2) in
     (c.loop-i.invariant.0, omega (arith, whole))
 
 pub overflow_add-i : goal.overflow_add-i
@@ -36,7 +36,7 @@ loop-i-smaller g c = omega (arith, c.loop-i-test.true)
 pub loop-i-preserved : goal.loop-i-preserved
 loop-i-preserved g c =
     let whole : length c.push-x.new.bytes ≡ most =
-    omega (arith, c.push-x.auto.0, c.loop-i.invariant.2) in
+    omega (arith, c.push-x.auto.bytes, c.loop-i.invariant.2) in
     let push = c in
     (c.take-sheet.ensures, omega (arith, push.loop-i-test.true), whole)
 
