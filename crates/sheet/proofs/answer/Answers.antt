@@ -5,7 +5,7 @@ use Rattle.sheet.proofs.answer.Goals as goal
 
 pub returns-in-Build : goal.returns-in-Build
 unfolding question_text
-returns-in-Build c = rw c.enum_told-1.given.1 c.build.ensures
+returns-in-Build c = rw c.in-Build.is c.build.ensures
 
 pub returns-in-Fault : goal.returns-in-Fault
 unfolding question_text

@@ -25,4 +25,4 @@ returns-in-Missing c = let w = c in
     let n = known in
     let s = n in
     let e : n.natural-n.result ≡ number_behind s.args.line.now = rw (n.natural-n.ensures, n.only.ensures, n.rest.ensures, others-of s.args.line.now) in
-    rw (← e, known.enum_told.given.1) w.wrong.ensures
+    rw (← e, known.in-Missing.is) w.wrong.ensures

@@ -6,7 +6,7 @@ use Rattle.sheet.proofs.done.Goals as goal
 pub returns-in-Plain : goal.returns-in-Plain
 unfolding after_word word_text
 returns-in-Plain c = let x = c in
-    let told = x.enum_told-1.given.1 in
+    let told = x.in-Plain.is in
     record {
       is = rw told x.plain.ensures.is;
       text = rw told x.plain.ensures.text;
@@ -53,7 +53,7 @@ unfolding after_word word_text
 returns-in-Extremes c = let x = c in
     let told = x.in-Extremes.is in
     record {
-      is = rw told;
+      is = (rw told);
       text = rw (told, ← x.extremes_of.ensures) x.extremes.ensures;
     }
 
@@ -62,6 +62,6 @@ unfolding after_word word_text
 returns-in-Asked c = let x = c in
     let told = x.in-Asked.is in
     record {
-      is = rw told;
+      is = (rw told);
       text = rw told x.asked.ensures;
     }

@@ -10,7 +10,7 @@ start-requires c = rw (c.fresh-s.ensures, c.defaults-table.ensures) (good-fresh 
 
 pub returns : goal.returns
 unfolding fresh_sheet
-returns c =record {
-      is = rw (c.start.ensures.is, c.fresh-s.ensures, c.defaults-table.ensures);
-      ready = c.start.ensures.ready;
-    }
+returns c = record {
+  is = rw (c.start.ensures.is, c.fresh-s.ensures, c.defaults-table.ensures);
+  ready = c.start.ensures.ready;
+}

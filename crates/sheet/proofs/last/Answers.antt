@@ -14,6 +14,11 @@ slice_bounds-bytes-end c = let f = c in
     let size = ap (λ (x : Bytes). x.length) f.frame-f.ensures ∙ packed-length _ in
     omega (arith, size, frame-fits f.args.line.now)
 
+pub slice_bounds-piece-end : goal.slice_bounds-piece-end
+slice_bounds-piece-end c = let n : length c.frame-f.result.bytes ≡ 300 = search rules in
+    let size = ap (λ (x : Bytes). x.length) c.frame-f.ensures ∙ packed-length _ in
+    sym (length-take-le _ _ (omega (arith, size, frame-fits c.args.line.now)))
+
 pub piece-requires : goal.piece-requires
 piece-requires c = let f = c in
     let s = f in

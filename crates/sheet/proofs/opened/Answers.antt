@@ -7,5 +7,4 @@ use Rattle.sheet.proofs.opened.Goals as goal
 
 pub returns : goal.returns
 returns c = let o = c.open-2.ensures in
-    let s = c in
-    rw (take_all s.args.n s.args.bytes.now c.if-n-bytes.false) (o.0, (o.1.0, o.1.1.0))
+    rw (take_all c.args.n c.args.bytes.now c.if-n-bytes.false) (record { is = o.is; loads = o.loads; text = o.text })

@@ -9,8 +9,8 @@ pub returns : goal.returns
 unfolding after_start start_text
 returns c = let o = c.opened-o.ensures in
     let t = c in
-    let whole = table-whole c.args.s.table (put_table-requires t t.put_table.lifetimes).1 (search rules) t.put_table.ensures in
+    let whole = table-whole c.args.s.table (search rules) (search rules) t.put_table.ensures in
     record {
-      is = c.with_run-sheet.ensures ∙ rw (o.0, o.1.0, whole);
-      text = rw whole at o.1.1;
+      is = c.with_run-sheet.ensures ∙ rw (o.is, o.loads, whole);
+      text = rw whole at o.text;
     }

@@ -9,5 +9,5 @@ pub returns : goal.returns
 returns g c = let a = c in
     record {
       is = rw (← a.held-n.ensures.0) a.line-a.ensures.is;
-      ready = a.line-a.ensures.text.1.0;
+      ready = a.line-a.ensures.ready;
     }
