@@ -25,6 +25,6 @@ returns-in-Missing c = let w = c in
     let s = n in
     let e : n.natural-n.result ≡ number_behind s.args.line.now = rw (n.natural-n.ensures, n.only.ensures, n.rest.ensures, others-of s.args.line.now) in
     record {
-      is = (rw (← e, known.in-Missing.is));
+      is = rw (← e, known.in-Missing.is);
       text = rw (← e, known.in-Missing.is) w.wrong.ensures;
     }

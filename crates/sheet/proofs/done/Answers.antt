@@ -53,7 +53,7 @@ unfolding after_word word_text
 returns-in-Extremes c = let x = c in
     let told = x.in-Extremes.is in
     record {
-      is = (rw told);
+      is = rw told;
       text = rw (told, ← x.extremes_of.ensures) x.extremes.ensures;
     }
 
@@ -62,6 +62,6 @@ unfolding after_word word_text
 returns-in-Asked c = let x = c in
     let told = x.in-Asked.is in
     record {
-      is = (rw told);
+      is = rw told;
       text = rw told x.asked.ensures;
     }

@@ -6,6 +6,6 @@ use Rattle.sheet.proofs.heading.Goals as goal
 
 pub returns : goal.returns
 returns c = record {
-  is = (rw c.defaults.ensures);
+  is = rw c.defaults.ensures;
   text = put_both c.put_bytes-p1.ensures c.put_bytes-end.ensures (omega arith);
 }

@@ -16,7 +16,7 @@ unfolding after_line line_text
 returns-then-bytes-gt1024 c = let w = c in
     let long = lt-ltb _ _ w.if-bytes-gt1024.true in
     record {
-      is = (rw long);
+      is = rw long;
       text = rw long w.wrong.ensures;
       ready = w.requires.0;
       within = put-within w.wrong.ensures 15 (omega arith) (omega arith);

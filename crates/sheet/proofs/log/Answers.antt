@@ -42,6 +42,6 @@ returns c = let w = c in
     let test = w in
     let line = w.args.line.now in
     record {
-      is = (rw (others-of line, ← test.rest-t.ensures, ← test.is_log.ensures, test.if-is_log.false));
+      is = rw (others-of line, ← test.rest-t.ensures, ← test.is_log.ensures, test.if-is_log.false);
       text = rw (others-of line, ← test.rest-t.ensures, ← test.is_log.ensures, test.if-is_log.false) w.wrong-end.ensures;
     }

@@ -10,7 +10,7 @@ pub returns-then-not-s : goal.returns-then-not-s
 unfolding after_piece piece_of
 returns-then-not-s c = let off = not-true c.args.s.running c.if-not-s.true in
     record {
-      is = (rw off);
+      is = rw off;
       text = rw off (put-none _ 0);
     }
 

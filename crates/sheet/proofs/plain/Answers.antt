@@ -11,7 +11,7 @@ pub returns-in-Blank : goal.returns-in-Blank
 unfolding after_plain plain_text
 returns-in-Blank c = let told = rw c.read-command.ensures at c.in-Blank.is in
     record {
-      is = (rw told);
+      is = rw told;
       text = rw told (put-none _ 0);
     }
 
@@ -22,7 +22,7 @@ returns-in-Slot c = let x = c in
     let told = rw known.read-command.ensures at known.in-Slot.is in
     let z : bk w32 known.in-Slot.z ≡ known.in-Slot.z = search rules in
     record {
-      is = (rw (told, c.with_table.ensures, x.changed.ensures, z));
+      is = rw (told, c.with_table.ensures, x.changed.ensures, z);
       text = rw told (put-none _ 0);
     }
 
