@@ -16,5 +16,5 @@ node-started node t = by-test (is_node node) (loaded_of t) _ (λ (l : Loaded). l
 pub overflow_cast-node : goal.overflow_cast-node
 overflow_cast-node c = let l = c in
     let s = l in
-    let number : (started_of s.args.node s.args.words).refusal ≡ 0 = sym (ap Loaded.refusal l.start.ensures.0) ∙ c.if-l-ne0.false in
+    let number : (started_of s.args.node s.args.words).refusal ≡ 0 = sym (ap Loaded.refusal l.start-l.ensures.is) ∙ c.if-l-ne0.false in
     omega (arith, node-started s.args.node s.args.words number)

@@ -10,5 +10,5 @@ returns g c = let line = c in
     let h = line in
     record {
       is = rw (← h.held-n.ensures.0) line.line-s.ensures.is;
-      ready = line.line-s.ensures.text.1.0;
+      ready = line.line-s.ensures.ready;
     }

@@ -19,5 +19,9 @@ returns c =
     let held = c in
     let start = held in
     let line = start.args.line in
-    let is = rw (held.held_length-n.ensures.is, held-is line (room)) at answer.ensures.0 in
-    (ap replied_by is, answer.ensures.1)
+    let is = rw (held.held_length-n.ensures.is, held-is line (room)) at answer.ensures.is in
+    record {
+      is = ap replied_by is;
+      valid = answer.ensures.valid;
+      fits = answer.ensures.fits;
+    }

@@ -7,7 +7,7 @@ use Rattle.slave.proofs.files.moved.Goals as goal
 
 pub returns : goal.returns
 unfolding answer_of
-returns c =record {
-      is = ap (λ (a : Answer). kept_of a.state true) c.advance-o.ensures.is;
-      valid = c.advance-o.ensures.valid;
-    }
+returns c = record {
+  is = ap (λ (a : Answer). kept_of a.state true) c.advance-o.ensures.is;
+  valid = c.advance-o.ensures.valid;
+}

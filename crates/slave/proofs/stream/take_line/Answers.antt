@@ -8,4 +8,4 @@ push-x-requires c = omega (arith, c.loop-i.invariant)
 
 pub loop-i-preserved : goal.loop-i-preserved
 loop-i-preserved c = let push = c in
-    omega (arith, push.push-x.auto.0, push.loop-i.invariant)
+    omega (arith, push.push-x.auto.bytes, push.loop-i.invariant)
