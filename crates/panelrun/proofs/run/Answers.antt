@@ -15,7 +15,7 @@ slice_bounds-input-end g c = c.read_full-n.ensures.bound
 pub run_piece-r-requires : goal.run_piece-r-requires
 run_piece-r-requires g c = let l = c.loop-turns.invariant in
     let read = c.read_full-n in
-    (l.0, omega (arith, read.ensures.prefix, read.ensures.bound, c.input-in-loop-turns-1.given, l.1, l.2))
+    (l.0, omega (arith, read.ensures.prefix, read.ensures.bound, l.1, l.2))
 
 pub slice_bounds-output-end : goal.slice_bounds-output-end
 slice_bounds-output-end g c = c.run_piece-r.ensures.within
@@ -29,4 +29,4 @@ loop-turns-smaller g c = omega arith
 pub loop-turns-preserved : goal.loop-turns-preserved
 loop-turns-preserved g c = let piece = c in
     let l = piece.loop-turns.invariant in
-    (piece.run_piece-r.ensures.ready, omega (arith, piece.input-in-loop-turns-1.given, l.1), omega (arith, c.output-in-loop-turns-1.given, l.2))
+    (piece.run_piece-r.ensures.ready, omega (arith, l.1), omega (arith, l.2))
