@@ -6,34 +6,19 @@ use lib.Seq.{length-take-le}
 use Rattle.logrun.specs.Progress.{Ready}
 use Rattle.panelrun.proofs.run.Goals as goal
 
-pub input_room-input-requires : goal.input_room-input-requires
-input_room-input-requires g c = tt
-
-pub output_room-output-requires : goal.output_room-output-requires
-output_room-output-requires g c = tt
-
 pub loop-turns-init : goal.loop-turns-init
 loop-turns-init g c = (c.requires, sym c.input_room-input.ensures, sym c.output_room-output.ensures)
 
-pub read_full-n-requires : goal.read_full-n-requires
-read_full-n-requires g c = tt
-
 pub slice_bounds-input-end : goal.slice_bounds-input-end
-slice_bounds-input-end g c = c.read_full-n.ensures.0
+slice_bounds-input-end g c = c.read_full-n.ensures.bound
 
 pub run_piece-r-requires : goal.run_piece-r-requires
 run_piece-r-requires g c = let l = c.loop-turns.invariant in
     let read = c.read_full-n in
-    (l.0, omega (arith, read.ensures.1, read.ensures.0, c.input-in-loop-turns-1.given, l.1, l.2))
+    (l.0, omega (arith, read.ensures.prefix, read.ensures.bound, l.1, l.2))
 
 pub slice_bounds-output-end : goal.slice_bounds-output-end
-slice_bounds-output-end g c = c.run_piece-r.ensures.goes.1.1.1
-
-pub write_all-requires : goal.write_all-requires
-write_all-requires g c = tt
-
-pub returns-then-not-write_all-r : goal.returns-then-not-write_all-r
-returns-then-not-write_all-r g c = tt
+slice_bounds-output-end g c = c.run_piece-r.ensures.within
 
 pub overflow_sub-turns : goal.overflow_sub-turns
 overflow_sub-turns g c = omega arith
@@ -44,7 +29,4 @@ loop-turns-smaller g c = omega arith
 pub loop-turns-preserved : goal.loop-turns-preserved
 loop-turns-preserved g c = let piece = c in
     let l = piece.loop-turns.invariant in
-    (piece.run_piece-r.ensures.goes.1.1.0, omega (arith, piece.input-in-loop-turns-1.given, l.1), omega (arith, c.output-in-loop-turns-1.given, l.2))
-
-pub returns : goal.returns
-returns g c = tt
+    (piece.run_piece-r.ensures.ready, omega (arith, l.1), omega (arith, l.2))
