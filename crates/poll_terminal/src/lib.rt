@@ -1,119 +1,41 @@
-// A dispatcher over an input and an output: lines are read as they come, and each is answered before the next input is waited for (paper 02, K12, poller).
-// Uses `poll_dialog` for all that is said, `script` for the lines of the input, and `ports` to read and write.
+// A dispatcher over an input and an output (paper 02, K12, poller). Uses `poll_dialog` for all that is said, and `talk` for the lines of the input.
 #![tactic(auto)]
 
-ghost use Rattle.std.specs.Prelude.{◌≡◌, ◌≤◌, length};
+ghost use Rattle.std.proofs.Common.{rules};
+ghost use Rattle.std.specs.Prelude.{⊤};
+ghost use Rattle.dispatcher.specs.Dispatch.{fresh_of};
 ghost use Rattle.poll_dialog.specs.Dialog.{after_line};
-ghost use Rattle.script.specs.Collector.{most, collected};
-ghost use Rattle.script.specs.Talk.{answered_of, answered_at, talked_all};
 
 use dispatcher::Dispatcher;
-use script::collector;
-use script::collector::{Collector, Extent};
 use std::io::{Read, Write};
+use talk::Dialog;
 
-// The dispatcher, and the line that has not ended yet.
-#[derive(Clone, Copy)]
-struct Talk {
-    // The panels, and where the polling stands.
-    dispatcher: Dispatcher,
-    // The bytes since the last newline.
-    collector: Collector,
-}
+// The dialog with a dispatcher.
+struct Polling;
 
-// What a piece of the input leaves.
-#[derive(Clone, Copy)]
-struct Heard {
-    // The dialog after it.
-    talk: Talk,
-    // Whether the input goes on.
-    more: bool,
-}
+impl Dialog<128> for Polling {
+    type State = Dispatcher;
 
-// A line that has ended: it is answered.
-fn answer<W: Write>(d: Dispatcher, bytes: &[u8], x: Extent, output: &mut W) -> Dispatcher
-    requires { most ≤ length bytes.now }
-    ensures { result ≡ answered_of after_line d (collected bytes.now x) }
-{
-    let n = collector::held(x);
-    let mut out = [0u8; 128];
-    let s = poll_dialog::line(d, &bytes[..n], &mut out);
-    let end = s.end;
-    ports::write_all(output, &out[..end]);
-    s.dispatcher
-}
+    ghost after = { after_line };
 
-// What is kept behind a byte: a line that it ends is answered.
-fn take<W: Write>(d: Dispatcher, bytes: &[u8], x: Extent, output: &mut W) -> Dispatcher
-    requires { most ≤ length bytes.now }
-    ensures { result ≡ answered_at after_line d (collected bytes.now x) }
-{
-    if x.ended {
-        return answer(d, bytes, x, output);
+    ghost first = { fresh_of };
+
+    // Any dispatcher is valid.
+    ghost Ready = { λ d. ⊤ };
+
+    ghost fits = { Prim.search rules };
+
+    fn fresh() -> Dispatcher {
+        dispatcher::fresh()
     }
-    d
-}
 
-// The bytes of a piece of the input.
-fn take_all<W: Write>(t: Talk, bytes: &[u8], output: &mut W) -> Talk
-    ensures { (result.dispatcher, result.collector) ≡ talked_all after_line (t.dispatcher, t.collector) bytes.now }
-{
-    let l = t.collector;
-    let mut held = l.bytes;
-    let mut x = collector::extent_of(l);
-    let mut d = t.dispatcher;
-    let mut i: usize = 0;
-    while i < bytes.len() {
-        x = collector::push(&mut held, x, bytes[i]);
-        d = take(d, &held, x, output);
-        i += 1;
-    }
-    Talk {
-        dispatcher: d,
-        collector: collector::kept(held, x),
+    fn line(d: Dispatcher, line: &[u8], out: &mut [u8; 128]) -> (Dispatcher, usize) {
+        let s = poll_dialog::line(d, line, out);
+        (s.dispatcher, s.end)
     }
 }
 
-// The end of the input: a last line without a newline counts too.
-fn finish<W: Write>(t: Talk, output: &mut W) {
-    let l = t.collector;
-    if collector::pending(l) {
-        let d = t.dispatcher;
-        let bytes = l.bytes;
-        answer(d, &bytes, collector::extent_of(l), output);
-    }
-}
-
-// Reads what is there and answers the lines that end in it.
-fn hear<R: Read, W: Write>(t: Talk, input: &mut R, output: &mut W) -> Heard {
-    let mut buffer = [0u8; 4096];
-    let n = ports::read_some(input, &mut buffer);
-    if n == 0 {
-        return Heard {
-            talk: t,
-            more: false,
-        };
-    }
-    Heard {
-        talk: take_all(t, &buffer[..n], output),
-        more: true,
-    }
-}
-
-// Runs a dispatcher to the end of the input. The pieces of the input are counted down from a number that no input uses up.
+// Runs a dispatcher to the end of the input.
 pub fn run<R: Read, W: Write>(input: &mut R, output: &mut W) {
-    let mut t = Talk {
-        dispatcher: dispatcher::fresh(),
-        collector: collector::fresh(),
-    };
-    let mut pieces = u64::MAX;
-    while pieces > 0 {
-        let u = hear(t, input, output);
-        t = u.talk;
-        if !u.more {
-            finish(t, output);
-            return;
-        }
-        pieces -= 1;
-    }
+    talk::run::<128, Polling, R, W>(input, output);
 }
