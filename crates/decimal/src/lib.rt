@@ -7,15 +7,6 @@ ghost use Rattle.integers.specs.Int.{Within};
 ghost use Rattle.decimal.specs.Decimal.{largest, minus, digits_of, text_of, value_from, parsed_of};
 ghost use Rattle.decimal.specs.ByteSteps.{all_digits, is_natural};
 
-// What a text is read as.
-#[derive(Clone, Copy)]
-pub enum Parsed {
-    // The number that the text is the text of.
-    Number(i64),
-    // The text of no number of at most 18 digits.
-    Malformed,
-}
-
 // How many digits n has: the least k above 0 with n below 10 ^ k.
 fn places(n: u64) -> usize
     requires { n ≤ largest }
@@ -115,26 +106,26 @@ fn value(s: &[u8]) -> u64
 }
 
 // What a minus sign and then s is read as. There is no minus zero.
-fn negative(s: &[u8]) -> Parsed
+fn negative(s: &[u8]) -> Option<i64>
     ensures { result ≡ parsed_of (minus ∷ s.now) }
 {
     if natural(s) {
         let n = value(s);
         if n == 0 {
-            return Parsed::Malformed;
+            return None;
         }
         let z = 0 - n as i64;
-        return Parsed::Number(z);
+        return Some(z);
     }
-    Parsed::Malformed
+    None
 }
 
-// Reads a whole text: the number that it is the text of, or Malformed.
-pub fn parse(s: &[u8]) -> Parsed
+// Reads a whole text: the number that it is the text of, or None where it is malformed.
+pub fn parse(s: &[u8]) -> Option<i64>
     ensures { result ≡ parsed_of s.now }
 {
     if s.len() == 0 {
-        return Parsed::Malformed;
+        return None;
     }
     let first = s[0];
     if first == b'-' {
@@ -142,7 +133,7 @@ pub fn parse(s: &[u8]) -> Parsed
     }
     if natural(s) {
         let z = value(s) as i64;
-        return Parsed::Number(z);
+        return Some(z);
     }
-    Parsed::Malformed
+    None
 }
