@@ -7,7 +7,6 @@ ghost use Rattle.std.specs.Prelude.{◌≡◌, ◌≤◌, length};
 ghost use Rattle.state.specs.State.{state_of};
 ghost use Rattle.state.specs.Valid.{Good};
 
-use decimal::Parsed;
 use modbus::replies::Reply;
 use modbus::words;
 use state::{Live, State};
@@ -113,8 +112,8 @@ fn rounds<E: Env>(env: &E) -> u64 {
     let mut word = [0u8; 32];
     let n = ports::arg(env, 1, &mut word);
     match decimal::parse(&word[..n]) {
-        Parsed::Number(z) => unsigned(z),
-        Parsed::Malformed => 0,
+        Some(z) => unsigned(z),
+        None => 0,
     }
 }
 

@@ -6,7 +6,6 @@
 
 ghost use Rattle.std.specs.Prelude.{◌≤◌};
 
-use decimal::Parsed;
 use dispatcher::{Answer, Choice, Dispatcher};
 use std::env::Env;
 
@@ -100,8 +99,8 @@ fn rounds<E: Env>(env: &E) -> u64 {
     let mut word = [0u8; 32];
     let n = ports::arg(env, 1, &mut word);
     match decimal::parse(&word[..n]) {
-        Parsed::Number(z) => unsigned(z),
-        Parsed::Malformed => 0,
+        Some(z) => unsigned(z),
+        None => 0,
     }
 }
 

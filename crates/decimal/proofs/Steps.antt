@@ -1,7 +1,7 @@
 -- What one turn of each loop does: to the digits that are left to write, and to the bytes that are left to read.
 use Prim.Native.Nat.{ℕ, zero, suc, ◌+◌, ◌-◌, ◌*◌, ◌/◌, ◌%◌, ◌≤◌, ◌<◌}
-use mathlib.Core.Path.{◌≡◌, ap, ◌∙◌}
-use mathlib.Core.Bool.{true, ◌&&◌}
+use mathlib.Core.Path.{◌≡◌}
+use mathlib.Core.Bool.{true}
 use mathlib.Core.List.{List, [], ◌∷◌, ◌++◌, append_assoc, append-nil}
 use native.Mathlib.Omega.{arith}
 use native.Mathlib.Numerals.{add-one}
@@ -51,22 +51,10 @@ signed (x ∷ xs) ds ys r h e =
 
 -- ---- reading
 
--- a list by its first byte
-pub by_first : (s : List ℕ) (b : ℕ) → 0 < length s → get_or s 0 0 ≡ b → s ≡ b ∷ drop 1 s
-by_first s b h e = drop-cons s 0 0 h ∙ ap (λ (x : ℕ). x ∷ drop 1 s) e
-
 -- the byte at i, and the bytes after it
-pub all_drop : (s : List ℕ) (i : ℕ) → i < length s → all_digits (drop i s) ≡ is_digit (get_or s i 0) && all_digits (drop (i + 1) s)
-unfolding all_digits
-all_drop s i h = rw (add-one i, drop-cons s i 0 h)
-
 pub value-drop : (v : ℕ) (s : List ℕ) (i : ℕ) → i < length s → value_from (v * 10 + (get_or s i 0 - 48)) (drop (i + 1) s) ≡ value_from v (drop i s)
 unfolding value_from
 value-drop v s i h = rw (add-one i, drop-cons s i 0 h)
-
-pub all_end : (s : List ℕ) (i : ℕ) → length s ≤ i → all_digits (drop i s) ≡ true
-unfolding all_digits
-all_end s i h = rw (drop_of_length-le s h)
 
 pub value-end : (v : ℕ) (s : List ℕ) (i : ℕ) → length s ≤ i → value_from v (drop i s) ≡ v
 unfolding value_from

@@ -1,5 +1,6 @@
 -- A text judged byte by byte: the texts of the numbers from 0 to the largest are those of one to 18 digits, the first of several not 0.
-use Rattle.std.specs.Prelude.{ℕ, Bool, true, false, cond, ◌&&◌, List, [], ◌∷◌, ltb, leb, eqb, length, get_or}
+use Rattle.std.specs.Prelude.{ℕ, Bool, false, cond, ◌&&◌, List, ltb, leb, eqb, length, get_or}
+use Rattle.std.specs.List.{list_all}
 use Rattle.decimal.specs.Decimal.{most_digits, digit}
 
 -- a byte is a digit
@@ -8,8 +9,7 @@ is_digit b = leb (digit 0) b && leb b (digit 9)
 
 -- every byte is a digit
 unfoldable pub all_digits : List ℕ → Bool
-all_digits [] = true
-all_digits (b ∷ s) = is_digit b && all_digits s
+all_digits s = list_all is_digit s
 
 -- one to 18 digits, the first of several not 0
 unfoldable pub is_natural : List ℕ → Bool

@@ -1,6 +1,5 @@
 -- Texts by computing: numbers of the paper's printed lines and the ends of the range, and texts that are no number's.
-use Rattle.std.specs.Prelude.{◌≡◌, refl, [], ◌∷◌, pos, negsuc}
-use Rattle.decimal.specs.declared.Parsed.TheVariants.{Number, Malformed}
+use Rattle.std.specs.Prelude.{◌≡◌, refl, [], ◌∷◌, pos, negsuc, Some, None}
 use Rattle.decimal.specs.Decimal.{digits_in, digits_of, text_of, value_from, number_in, same_text, parsed_of}
 
 -- 0, -2, 3277
@@ -22,30 +21,30 @@ unfolding text_of digits_of digits_in
 least-text = refl
 
 -- -7 is read; an empty text, a lone minus sign, -0, 07, +7 and 7 with a space are malformed
-negative-read : parsed_of (45 ∷ 55 ∷ []) ≡ Number (negsuc 6)
+negative-read : parsed_of (45 ∷ 55 ∷ []) ≡ Some (negsuc 6)
 unfolding parsed_of same_text number_in value_from text_of digits_of digits_in
 negative-read = refl
 
-empty-read : parsed_of [] ≡ Malformed
+empty-read : parsed_of [] ≡ None
 unfolding parsed_of same_text number_in value_from text_of digits_of digits_in
 empty-read = refl
 
-minus-read : parsed_of (45 ∷ []) ≡ Malformed
+minus-read : parsed_of (45 ∷ []) ≡ None
 unfolding parsed_of same_text number_in value_from text_of digits_of digits_in
 minus-read = refl
 
-minus-zero-read : parsed_of (45 ∷ 48 ∷ []) ≡ Malformed
+minus-zero-read : parsed_of (45 ∷ 48 ∷ []) ≡ None
 unfolding parsed_of same_text number_in value_from text_of digits_of digits_in
 minus-zero-read = refl
 
-leading-zero-read : parsed_of (48 ∷ 55 ∷ []) ≡ Malformed
+leading-zero-read : parsed_of (48 ∷ 55 ∷ []) ≡ None
 unfolding parsed_of same_text number_in value_from text_of digits_of digits_in
 leading-zero-read = refl
 
-plus-read : parsed_of (43 ∷ 55 ∷ []) ≡ Malformed
+plus-read : parsed_of (43 ∷ 55 ∷ []) ≡ None
 unfolding parsed_of same_text number_in value_from text_of digits_of digits_in
 plus-read = refl
 
-space-read : parsed_of (55 ∷ 32 ∷ []) ≡ Malformed
+space-read : parsed_of (55 ∷ 32 ∷ []) ≡ None
 unfolding parsed_of same_text number_in value_from text_of digits_of digits_in
 space-read = refl

@@ -1,9 +1,7 @@
 -- The text of a whole number: for every z of at most 18 digits, what is written for z is read as z, and nothing else is read as z.
 -- A text is a minus sign for a number below 0 and then its digits, the most significant first, with no zero in front; 0 is the digit 0.
 -- From "panelrun and its log": the numbers of the printed lines.
-use Rattle.std.specs.Prelude.{ℕ, zero, suc, ◌+◌, ◌-◌, ◌*◌, ◌/◌, ◌%◌, ◌^◌, Bool, true, false, cond, ◌&&◌, List, [], ◌∷◌, ◌++◌, ltb, leb, eqb, ℤ, pos, negsuc, neg_ℤ, nat_abs}
-use Rattle.decimal.specs.declared.Parsed.{Parsed}
-use Rattle.decimal.specs.declared.Parsed.TheVariants.{Number, Malformed}
+use Rattle.std.specs.Prelude.{ℕ, zero, suc, ◌+◌, ◌-◌, ◌*◌, ◌/◌, ◌%◌, ◌^◌, Bool, true, false, cond, ◌&&◌, List, [], ◌∷◌, ◌++◌, ltb, leb, eqb, ℤ, pos, negsuc, neg_ℤ, nat_abs, Option, Some, None}
 
 -- the most digits that a number has here
 abbrev pub most_digits : ℕ
@@ -52,6 +50,6 @@ same_text [] (b ∷ t) = false
 same_text (a ∷ s) [] = false
 same_text (a ∷ s) (b ∷ t) = eqb a b && same_text s t
 
--- what a text is read as: a number of at most 18 digits where it is that number's text, else malformed
-unfoldable pub parsed_of : List ℕ → Parsed
-parsed_of s = cond (same_text s (text_of (number_in s)) && leb (nat_abs (number_in s)) largest) (Number (number_in s)) Malformed
+-- what a text is read as: a number of at most 18 digits where it is that number's text, else none, for it is malformed
+unfoldable pub parsed_of : List ℕ → Option ℤ
+parsed_of s = cond (same_text s (text_of (number_in s)) && leb (nat_abs (number_in s)) largest) (Some (number_in s)) None

@@ -1,11 +1,9 @@
 -- What is written is read, and what is read was written: the laws of a number's text.
-use Rattle.std.specs.Prelude.{ℕ, suc, ◌≤◌, ◌<◌, ◌≡◌, refl, Bool, true, false, cond, ◌&&◌, List, [], ◌∷◌, leb, eqb, ℤ, pos, negsuc, neg_ℤ, nat_abs, length}
+use Rattle.std.specs.Prelude.{ℕ, suc, ◌≤◌, ◌<◌, ◌≡◌, refl, Bool, true, false, cond, ◌&&◌, List, [], ◌∷◌, leb, eqb, ℤ, pos, negsuc, neg_ℤ, nat_abs, Option, Some, None, length}
 use Rattle.std.proofs.Common.{sym, ap, ◌∙◌, arith, leb-true, le-leb, eqb-true, eq-eqb, ne_eqb}
 use Rattle.std.proofs.lemmas.Bool.{false≢true}
 use Rattle.integers.specs.Int.{P, N, Within}
 use Rattle.integers.specs.IntLaws.{excl, abs_is}
-use Rattle.decimal.specs.declared.Parsed.{Parsed}
-use Rattle.decimal.specs.declared.Parsed.TheVariants.{Number, Malformed}
 use Rattle.decimal.specs.Decimal.{largest, minus, digits_of, text_of, value_from, number_in, same_text, parsed_of}
 use Rattle.decimal.specs.ByteSteps.{all_digits}
 use Rattle.decimal.specs.DigitLaws.{digits-some, digits-few, digits-all, value-digits, all_head, digit-from, both_true, and-true}
@@ -85,16 +83,16 @@ abs-within : (z : ℤ) → nat_abs z ≤ largest → Within largest z
 abs-within z h = record { above = omega (arith, abs_is z); below = omega (arith, abs_is z) }
 
 -- what is written for z is read as z
-pub written-is-read : (z : ℤ) → Within largest z → parsed_of (text_of z) ≡ Number z
+pub written-is-read : (z : ℤ) → Within largest z → parsed_of (text_of z) ≡ Some z
 unfolding parsed_of
 written-is-read z h = rw (number-text z h, same_refl (text_of z), le-leb (nat_abs z) largest (within-abs z h))
 
 -- only the text of z is read as z, and z has at most 18 digits
-pub read-is-written : (s : List ℕ) (z : ℤ) → parsed_of s ≡ Number z → (s ≡ text_of z) × Within largest z
+pub read-is-written : (s : List ℕ) (z : ℤ) → parsed_of s ≡ Some z → (s ≡ text_of z) × Within largest z
 unfolding parsed_of
 read-is-written s z e = tested (same_text s (text_of (number_in s)) && leb (nat_abs (number_in s)) largest) refl e
   where
-    tested : (t : Bool) → same_text s (text_of (number_in s)) && leb (nat_abs (number_in s)) largest ≡ t → cond t (Number (number_in s)) Malformed ≡ Number z → (s ≡ text_of z) × Within largest z
+    tested : (t : Bool) → same_text s (text_of (number_in s)) && leb (nat_abs (number_in s)) largest ≡ t → cond t (Some (number_in s)) None ≡ Some z → (s ≡ text_of z) × Within largest z
     tested true h e =
         let p = both_true (same_text s (text_of (number_in s))) (leb (nat_abs (number_in s)) largest) h in
         let n : number_in s ≡ z = cc in
@@ -102,11 +100,11 @@ read-is-written s z e = tested (same_text s (text_of (number_in s)) && leb (nat_
     tested false h e = let z : ◌≡◌ {A = ℕ} 0 1 = cc in absurd (omega arith)
 
 -- what is no number's text is malformed
-pub others-malformed : (s : List ℕ) → ((z : ℤ) → Within largest z → s ≡ text_of z → ⊥) → parsed_of s ≡ Malformed
+pub others-malformed : (s : List ℕ) → ((z : ℤ) → Within largest z → s ≡ text_of z → ⊥) → parsed_of s ≡ None
 others-malformed s none = by-outcome (parsed_of s) refl
   where
-    by-outcome : (p : Parsed) → parsed_of s ≡ p → p ≡ Malformed
-    by-outcome (Number z) e =
+    by-outcome : (p : Option ℤ) → parsed_of s ≡ p → p ≡ None
+    by-outcome (Some z) e =
         let r = read-is-written s z e in
         absurd (none z r.1 r.0)
-    by-outcome Malformed e = refl
+    by-outcome None e = refl

@@ -7,15 +7,6 @@ ghost use Rattle.integers.specs.Int.{Within};
 ghost use Rattle.decimal.specs.Decimal.{largest, minus, digits_of, text_of, value_from, parsed_of};
 ghost use Rattle.decimal.specs.ByteSteps.{all_digits, is_natural};
 
-// What a text is read as.
-#[derive(Clone, Copy)]
-pub enum Parsed {
-    // The number that the text is the text of.
-    Number(i64),
-    // The text of no number of at most 18 digits.
-    Malformed,
-}
-
 // How many digits n has: the least k above 0 with n below 10 ^ k.
 fn places(n: u64) -> usize
     requires { n ≤ largest }
@@ -60,13 +51,12 @@ pub fn write(out: &mut [u8], z: i64) -> usize
     requires { (19 ≤ length out.old) × Within largest z }
     ensures { (result ≡ length (text_of z)) × (out.new ≡ text_of z ++ drop result out.old) }
 {
+    let n = z.unsigned_abs();
     if z < 0 {
-        let n = (0 - z) as u64;
         let k = write_digits(&mut out[1..], n);
         out[0] = b'-';
         return k + 1;
     }
-    let n = z as u64;
     write_digits(out, n)
 }
 
@@ -74,15 +64,7 @@ pub fn write(out: &mut [u8], z: i64) -> usize
 fn digits_only(s: &[u8]) -> bool
     ensures { result ≡ all_digits s.now }
 {
-    let mut i: usize = 0;
-    while i < s.len() {
-        let b = s[i];
-        if b < b'0' || b'9' < b {
-            return false;
-        }
-        i += 1;
-    }
-    true
+    s.iter().all(|b| b.is_ascii_digit())
 }
 
 // Whether s is one to 18 digits, the first of several not 0.
@@ -106,43 +88,35 @@ fn value(s: &[u8]) -> u64
     ensures { result ≡ value_from 0 s.now }
 {
     let mut v: u64 = 0;
-    let mut i: usize = 0;
-    while i < s.len() {
-        v = v * 10 + (s[i] - b'0') as u64;
-        i += 1;
+    for b in s {
+        v = v * 10 + (*b - b'0') as u64;
     }
     v
 }
 
 // What a minus sign and then s is read as. There is no minus zero.
-fn negative(s: &[u8]) -> Parsed
+fn negative(s: &[u8]) -> Option<i64>
     ensures { result ≡ parsed_of (minus ∷ s.now) }
 {
-    if natural(s) {
-        let n = value(s);
-        if n == 0 {
-            return Parsed::Malformed;
-        }
-        let z = 0 - n as i64;
-        return Parsed::Number(z);
+    if !natural(s) {
+        return None;
     }
-    Parsed::Malformed
+    let n = value(s);
+    if n == 0 {
+        return None;
+    }
+    Some(-(n as i64))
 }
 
-// Reads a whole text: the number that it is the text of, or Malformed.
-pub fn parse(s: &[u8]) -> Parsed
+// Reads a whole text: the number that it is the text of, or None where it is malformed.
+pub fn parse(s: &[u8]) -> Option<i64>
     ensures { result ≡ parsed_of s.now }
 {
-    if s.len() == 0 {
-        return Parsed::Malformed;
+    if let Some(digits) = s.strip_prefix(b"-") {
+        return negative(digits);
     }
-    let first = s[0];
-    if first == b'-' {
-        return negative(&s[1..]);
+    if !natural(s) {
+        return None;
     }
-    if natural(s) {
-        let z = value(s) as i64;
-        return Parsed::Number(z);
-    }
-    Parsed::Malformed
+    Some(value(s) as i64)
 }

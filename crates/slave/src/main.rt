@@ -7,7 +7,6 @@ ghost use Rattle.std.specs.Prelude.{◌≤◌};
 ghost use Rattle.state.specs.Valid.{Good};
 ghost use Rattle.modbus.specs.Replies.{longest_reply};
 
-use decimal::Parsed;
 use framing::Collector;
 use modbus::replies::Reply;
 use state::State;
@@ -314,8 +313,8 @@ fn node<E: Env>(env: &E) -> u32 {
     let mut word = [0u8; 32];
     let n = ports::arg(env, 1, &mut word);
     match decimal::parse(&word[..n]) {
-        Parsed::Number(z) => limited(z),
-        Parsed::Malformed => 0,
+        Some(z) => limited(z),
+        None => 0,
     }
 }
 

@@ -1,49 +1,31 @@
--- `decimal::parse` meets its contract: each return is one way of reading a text, by its length and its first byte.
+-- `decimal::parse` meets its contract: each return is one way of reading a text, by its first byte and what it passes.
 use mathlib.Core.Path.{◌≡◌, sym, ap, ◌∙◌}
-use mathlib.Core.Bool.{true}
-use mathlib.Core.List.{List, ◌∷◌}
+use mathlib.Core.Bool.{false}
+use mathlib.Core.List.{List, [], ◌∷◌}
 use Prim.Native.Nat.{ℕ}
 use native.Mathlib.Omega.{arith}
 use lib.IntN.{pos}
-use lib.ListN.{get_or}
+use lib.ListN.{take}
+use lib.Pointwise.{pointwise}
 use mir.Facts.{to_z-of_z}
+use Rattle.std.specs.Prelude.{nat_eq}
+use Rattle.std.proofs.lemmas.Bool.{false≢true}
 use Rattle.integers.specs.IntLaws.{ints}
-use Rattle.decimal.specs.Decimal.{minus, parsed_of}
-use Rattle.decimal.specs.ByteSteps.{is_natural}
+use Rattle.decimal.specs.Decimal.{minus}
 use Rattle.decimal.specs.ByteLaws.{pass-range}
-use Rattle.decimal.specs.ParseLaws.{empty-malformed, natural-read, natural-malformed}
-use Rattle.decimal.proofs.Steps.{rest_all, by_first}
+use Rattle.decimal.specs.ParseLaws.{natural-read, natural-malformed}
 use Rattle.decimal.proofs.parse.Goals as goal
 
-pub returns-then-s-eq0 : goal.returns-then-s-eq0
-returns-then-s-eq0 c = sym (empty-malformed _ c.if-s-eq0.true)
+-- a text with no minus sign in front is none and a minus sign
+no-minus : (s : List ℕ) → pointwise nat_eq (take 1 s) (minus ∷ []) ≡ false → (t : List ℕ) → s ≡ minus ∷ t → ⊥
+no-minus s h t e = false≢true (sym h ∙ ap (λ (l : List ℕ). pointwise nat_eq (take 1 l) (minus ∷ [])) e)
 
-pub returns-then-first-eq45 : goal.returns-then-first-eq45
-returns-then-first-eq45 c = let s = c.args.s.now in
-    c.negative.ensures
-    ∙ ap (λ (t : List ℕ). parsed_of (minus ∷ t)) (rest_all s)
-    ∙ ap parsed_of (sym (by_first s minus (omega arith) c.if-first-eq45.true))
+pub returns-then-not-natural : goal.returns-then-not-natural
+returns-then-not-natural c =
+    sym (natural-malformed _ (sym c.natural.ensures ∙ c.if-not-natural.true) (no-minus _ (rw c.in_default.is at c.strip_prefix.ensures.cases)))
 
-pub value-z-requires : goal.value-z-requires
-value-z-requires c =
-    let passed : is_natural c.args.s.now ≡ true =
-    sym c.natural.ensures ∙ c.if-natural.true in
-    passed
-
-pub overflow_cast-z : goal.overflow_cast-z
-overflow_cast-z c =
-    let passed : is_natural c.args.s.now ≡ true =
-    sym c.natural.ensures ∙ c.if-natural.true in
-    omega (arith, ints, pass-range _ (passed), c.value-z.ensures)
-
-pub returns-then-natural : goal.returns-then-natural
-returns-then-natural c =
-    let passed : is_natural c.args.s.now ≡ true =
-    sym c.natural.ensures ∙ c.if-natural.true in
-    rw (to_z-of_z {z = pos c.value-z.result} (overflow_cast-z c), c.value-z.ensures) (sym (natural-read _ (passed)))
+pub overflow_cast-result : goal.overflow_cast-result
+overflow_cast-result c = omega (arith, ints, pass-range _ (sym c.natural.ensures ∙ c.if-not-natural.false), c.value.ensures)
 
 pub returns : goal.returns
-returns c = let s = c.args.s.now in
-    sym
-    (natural-malformed s (sym c.natural.ensures ∙ c.if-natural.false)
-    (λ t e. c.if-first-eq45.false (ap (λ (l : List ℕ). get_or l 0 0) e)))
+returns c = rw (to_z-of_z {z = pos c.value.result} (overflow_cast-result c), c.value.ensures) (sym (natural-read _ (sym c.natural.ensures ∙ c.if-not-natural.false)))
