@@ -1,5 +1,5 @@
 -- Small cases, computed.
-use Rattle.std.specs.Prelude.{◌≡◌, refl, [], ◌∷◌, ◌++◌, replicate, ◌-◌, ◌^◌}
+use Rattle.std.specs.Prelude.{◌≡◌, refl, [], ◌∷◌, ◌++◌, replicate, ◌-◌, ◌^◌, Ok, Err}
 use Rattle.bitplanes.specs.Turned.{plane, planes, in_groups, turned, turned_into}
 
 -- 31 words are stored as they are
@@ -28,19 +28,19 @@ unfolding in_groups planes plane
 second_group = refl
 
 -- an empty input into an empty slice, and into one that keeps its words
-empty : turned_into [] [] ≡ (0, [])
+empty : turned_into [] [] ≡ (Ok tt, [])
 unfolding in_groups
 empty = refl
 
-empty-input : turned_into [] (9 ∷ []) ≡ (0, 9 ∷ [])
+empty-input : turned_into [] (9 ∷ []) ≡ (Ok tt, 9 ∷ [])
 unfolding in_groups
 empty-input = refl
 
 -- an output that is too short
-too_short : turned_into (1 ∷ 2 ∷ []) (9 ∷ []) ≡ (22, 9 ∷ [])
+too_short : turned_into (1 ∷ 2 ∷ []) (9 ∷ []) ≡ (Err (record {}), 9 ∷ [])
 too_short = refl
 
 -- what lies behind stays
-old-tail : turned_into (1 ∷ 2 ∷ []) (9 ∷ 8 ∷ 7 ∷ []) ≡ (0, 1 ∷ 2 ∷ 7 ∷ [])
+old-tail : turned_into (1 ∷ 2 ∷ []) (9 ∷ 8 ∷ 7 ∷ []) ≡ (Ok tt, 1 ∷ 2 ∷ 7 ∷ [])
 unfolding in_groups
 old-tail = refl

@@ -1,6 +1,7 @@
 -- Turning, at every length: what Promise claims. A list and its turned list have each bit at its place in the other, and only one list has them there;
 -- so turning again gives the list back.
-use Rattle.std.specs.Prelude.{◌≡◌, Bool, cond, ◌⊎◌, List, ◌++◌, ℕ, ◌+◌, ◌-◌, ◌*◌, ◌/◌, ◌%◌, ◌^◌, ◌≤◌, ◌<◌, ltb, length, get_or, take, drop}
+use Rattle.std.specs.Prelude.{◌≡◌, Bool, cond, ◌⊎◌, List, ◌++◌, ℕ, ◌+◌, ◌-◌, ◌*◌, ◌/◌, ◌%◌, ◌^◌, ◌≤◌, ◌<◌, ltb, length, get_or, take, drop, Result, Ok, Err}
+use Rattle.bitplanes.specs.declared.TooShort.{TooShort}
 use Rattle.std.proofs.Common.{sym, ap, ap₂, ◌∙◌, subst, inl, inr, append-nil, arith, le-ltb, length-drop, drop_of_length-le, take_all, ext_get_or, get_or-take, get_or-drop, length-take-le}
 use Rattle.bits.specs.Bits.{bit_at}
 use Rattle.bitplanes.specs.Turned.{turned_group, in_groups, turned, filled}
@@ -108,17 +109,17 @@ turned-back ts w = sym (only-turned (turned ts) ts (words-kept ts w) w (placed-b
 pub read_back_lem : ReadBack
 read_back_lem ts old w h =
     let again : List ℕ = turned (turned ts) in
-    ap (λ (n : ℕ). cond (ltb (length old) n) (22, old) (0, again ++ drop n old)) (turned-length ts)
-    ∙ ap (λ (b : Bool). cond b (22, old) (0, again ++ drop (length ts) old)) (le-ltb (length old) (length ts) h)
-    ∙ ap (λ (l : List ℕ). (0, l ++ drop (length ts) old)) (turned-back ts w)
+    ap (λ (n : ℕ). cond (ltb (length old) n) (Err (record {}), old) (Ok tt, again ++ drop n old)) (turned-length ts)
+    ∙ ap (λ (b : Bool). cond b (Err (record {}), old) (Ok tt, again ++ drop (length ts) old)) (le-ltb (length old) (length ts) h)
+    ∙ ap (λ (l : List ℕ). (Ok tt, l ++ drop (length ts) old)) (turned-back ts w)
 
 -- ---- for callers
 -- what a call leaves in an output that is long enough
-pub filled-long : (input all old new : List ℕ) (r : ℕ) → length input ≤ length old → (r, new) ≡ filled input all old → (r ≡ 0) × (new ≡ all ++ drop (length input) old)
+pub filled-long : (input all old new : List ℕ) (r : Result Unit TooShort) → length input ≤ length old → (r, new) ≡ filled input all old → (r ≡ Ok tt) × (new ≡ all ++ drop (length input) old)
 filled-long input all old new r h e =
-    let f : ◌≡◌ {A = ℕ × List ℕ} (r, new) (0, all ++ drop (length input) old) =
-    e ∙ ap (λ (b : Bool). cond b (22, old) (0, all ++ drop (length input) old)) (le-ltb (length old) (length input) h) in
-    (ap (λ (p : ℕ × List ℕ). p.0) f, ap (λ (p : ℕ × List ℕ). p.1) f)
+    let f : ◌≡◌ {A = Result Unit TooShort × List ℕ} (r, new) (Ok tt, all ++ drop (length input) old) =
+    e ∙ ap (λ (b : Bool). cond b (Err (record {}), old) (Ok tt, all ++ drop (length input) old)) (le-ltb (length old) (length input) h) in
+    (ap (λ (p : Result Unit TooShort × List ℕ). p.0) f, ap (λ (p : Result Unit TooShort × List ℕ). p.1) f)
 
 -- one group alone
 pub turned-one : (ts : List ℕ) → length ts ≡ 32 → turned ts ≡ turned_group ts

@@ -1,5 +1,5 @@
 -- What K8 promises, as claims in definitions alone; TurnedLaws proves each of them.
-use Rattle.std.specs.Prelude.{◌≡◌, List, ◌++◌, ℕ, ◌+◌, ◌*◌, ◌/◌, ◌^◌, ◌≤◌, ◌<◌, length, get_or, drop}
+use Rattle.std.specs.Prelude.{◌≡◌, List, ◌++◌, ℕ, ◌+◌, ◌*◌, ◌/◌, ◌^◌, ◌≤◌, ◌<◌, length, get_or, drop, Ok}
 use Rattle.bits.specs.Bits.{bit_at}
 use Rattle.bitplanes.specs.Turned.{group_size, turned, turned_into}
 
@@ -31,4 +31,4 @@ TurnsBack = (ts : List ℕ) → Words ts → turned (turned ts) ≡ ts
 
 -- the same of what `turn` leaves: handed what it stored, it gives the words back, and keeps the tail
 abbrev pub ReadBack : Type 0
-ReadBack = (ts old : List ℕ) → Words ts → length ts ≤ length old → turned_into (turned ts) old ≡ (0, ts ++ drop (length ts) old)
+ReadBack = (ts old : List ℕ) → Words ts → length ts ≤ length old → turned_into (turned ts) old ≡ (Ok tt, ts ++ drop (length ts) old)

@@ -1,6 +1,7 @@
 -- Bit planes for the recorder: each full group of 32 telegrams is turned before storage. Paper 02, K8. Bits are numbered from 0 here.
 -- What this comes to, bit by bit, and that turning again brings the list back, stands in Promise.
-use Rattle.std.specs.Prelude.{cond, List, [], ◌∷◌, ◌++◌, ℕ, zero, suc, ◌+◌, ◌*◌, ◌/◌, ltb, length, take, drop}
+use Rattle.std.specs.Prelude.{cond, List, [], ◌∷◌, ◌++◌, ℕ, zero, suc, ◌+◌, ◌*◌, ◌/◌, ltb, length, take, drop, Result, Ok, Err}
+use Rattle.bitplanes.specs.declared.TooShort.{TooShort}
 use Rattle.bits.specs.Bits.{bit_at}
 
 -- "group of 32": as many words as a word has bits
@@ -30,11 +31,15 @@ in_groups s f (suc n) ts = f (take s ts) ++ in_groups s f n (drop s ts)
 abbrev pub turned : List ℕ → List ℕ
 turned ts = in_groups group_size turned_group (length ts / group_size) ts
 
--- a number, and the output slice after it: "22 output slice shorter than input, nothing written"; else 0, and the slice is "filled exactly and nothing beyond is touched".
+-- "22 output slice shorter than input"
+abbrev pub too_short_number : TooShort → ℕ
+too_short_number x = 22
+
+-- an answer, and the output slice after it: "22 output slice shorter than input, nothing written"; else the slice is "filled exactly and nothing beyond is touched".
 -- `all` is what the whole input is to become, as long as the input
-abbrev pub filled : List ℕ → List ℕ → List ℕ → ℕ × List ℕ
-filled input all old = cond (ltb (length old) (length input)) (22, old) (0, all ++ drop (length input) old)
+abbrev pub filled : List ℕ → List ℕ → List ℕ → Result Unit TooShort × List ℕ
+filled input all old = cond (ltb (length old) (length input)) (Err (record {}), old) (Ok tt, all ++ drop (length input) old)
 
 -- what `turn` answers and leaves in the output slice
-abbrev pub turned_into : List ℕ → List ℕ → ℕ × List ℕ
+abbrev pub turned_into : List ℕ → List ℕ → Result Unit TooShort × List ℕ
 turned_into ts old = filled ts (turned ts) old

@@ -3,22 +3,23 @@
 // Uses the laws of `bits`.
 #![tactic(auto)]
 
-ghost use Rattle.std.specs.Prelude.{◌≡◌, ◌++◌, ◌≤◌, ◌<◌, length, drop};
-ghost use Rattle.bitplanes.specs.Turned.{turned_group, turned_into};
+ghost use Rattle.std.specs.Prelude.{◌≡◌, ◌<◌, length};
+ghost use Rattle.bitplanes.specs.Turned.{turned_group, too_short_number, turned_into};
 ghost use Rattle.bitplanes.specs.RoundSteps.{Width, First, mask_of, lower_of, upper_of, crossing, exchanged};
 
 // The words of a group, as many as a word has bits.
 const GROUP: usize = 32;
 
-// s to the front of d.
-fn copy(s: &[u32], d: &mut [u32])
-    requires { length s.now ≤ length d.old }
-    ensures { d.new ≡ s.now ++ drop (length s.now) d.old }
-{
-    let mut i = 0;
-    while i < s.len() {
-        d[i] = s[i];
-        i += 1;
+// The output is shorter than the input.
+#[derive(Clone, Copy)]
+pub struct TooShort;
+
+impl TooShort {
+    // Its number.
+    pub fn number(self) -> u8
+        ensures { result ≡ too_short_number self }
+    {
+        22
     }
 }
 
@@ -66,19 +67,17 @@ fn exchange(g: &mut [u32], w: usize, m: u32)
     requires m_value { m ≡ mask_of w }
     ensures { g.new ≡ exchanged w g.old }
 {
-    let mut p = 0;
-    while p < 16 {
+    for p in 0..16 {
         let k = first(p, w);
         let x = g[k];
         let y = g[k + w];
         g[k] = lower(x, y, w, m);
         g[k + w] = upper(x, y, w, m);
-        p += 1;
     }
 }
 
 // A group of 32 words turned in its place.
-fn turn_group(g: &mut [u32])
+pub fn turn_group(g: &mut [u32])
     requires { length g.old ≡ 32 }
     ensures { g.new ≡ turned_group g.old }
 {
@@ -89,21 +88,19 @@ fn turn_group(g: &mut [u32])
     exchange(g, 1, 0x5555_5555);
 }
 
-// The input turned, at the front of the output; what lies behind it stays. 0, or 22 where the output is shorter than the input:
-// then nothing is written.
-pub fn turn(input: &[u32], output: &mut [u32]) -> u8
+// The input turned, at the front of the output; what lies behind it stays. Where the output is shorter than the input, nothing is written.
+pub fn turn(input: &[u32], output: &mut [u32]) -> Result<(), TooShort>
     ensures { (result, output.new) ≡ turned_into input.now output.old }
 {
     let n = input.len();
     if output.len() < n {
-        return 22;
+        return Err(TooShort);
     }
-    copy(input, output);
-    let mut at = 0;
-    while n - at >= GROUP {
+    output[..n].copy_from_slice(input);
+    for k in 0..n / GROUP {
+        let at = k * GROUP;
         let end = at + GROUP;
         turn_group(&mut output[at..end]);
-        at = end;
     }
-    0
+    Ok(())
 }

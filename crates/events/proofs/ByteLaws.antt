@@ -1,5 +1,5 @@
 -- The words of a log's bytes, one after the other: at place i there is a word while four bytes are left, and none else.
-use Rattle.std.specs.Prelude.{◌≡◌, refl, List, [], ◌∷◌, ℕ, suc, ◌+◌, ◌≤◌, ◌<◌, length, get_or, drop}
+use Rattle.std.specs.Prelude.{◌≡◌, refl, List, [], ◌∷◌, ◌++◌, ℕ, suc, ◌+◌, ◌≤◌, ◌<◌, length, get_or, drop}
 use Rattle.std.proofs.Common.{ap, ◌∙◌, arith, length-drop, drop-cons}
 use Rattle.events.specs.Words.{word_at}
 use Rattle.events.specs.declared.Pending.{Pending}
@@ -26,7 +26,17 @@ pub words-next : (bytes : List ℕ) (i : ℕ) → i + 4 ≤ length bytes → wor
 unfolding words_in
 words-next bytes i h = ap words_in (four bytes i h)
 
-few : (bytes : List ℕ) → length bytes < 4 → words_in bytes ≡ []
+-- four bytes in front of others are a word
+pub word_front : (four bytes : List ℕ) → length four ≡ 4 → words_in (four ++ bytes) ≡ word_from four 0 ∷ words_in bytes
+unfolding words_in
+word_front [] bytes l = absurd (omega arith)
+word_front (a ∷ []) bytes l = absurd (omega arith)
+word_front (a ∷ (b ∷ [])) bytes l = absurd (omega arith)
+word_front (a ∷ (b ∷ (c ∷ []))) bytes l = absurd (omega arith)
+word_front (a ∷ (b ∷ (c ∷ (d ∷ [])))) bytes l = refl
+word_front (a ∷ (b ∷ (c ∷ (d ∷ (e ∷ more))))) bytes l = absurd (omega arith)
+
+pub few : (bytes : List ℕ) → length bytes < 4 → words_in bytes ≡ []
 unfolding words_in
 few [] h = refl
 few (a ∷ []) h = refl

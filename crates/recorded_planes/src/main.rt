@@ -4,17 +4,14 @@
 
 ghost use Rattle.std.specs.Prelude.{◌≡◌, ◌+◌, ◌≤◌, length};
 
+use bitplanes::TooShort;
 use std::io::Write;
 
 // What every word of an output holds before.
 const BEFORE: u32 = 0xc0ff_ee00;
 
-// Room for the longest list and two words behind it.
-fn room() -> [u32; 1002]
-    ensures { 1002 ≡ length result }
-{
-    [BEFORE; 1002]
-}
+// The words of the longest list, and two behind it.
+const ROOM: usize = 1002;
 
 // The word behind x of a list: 1,664,525 x + 1,013,904,223 modulo 2^32.
 fn next(x: u32) -> u32 {
@@ -24,33 +21,15 @@ fn next(x: u32) -> u32 {
 // A list: each word from the one before, the first from 1.
 fn put_list(words: &mut [u32]) {
     let mut x: u32 = 1;
-    let mut i: usize = 0;
-    while i < words.len() {
+    for word in words {
         x = next(x);
-        words[i] = x;
-        i += 1;
+        *word = x;
     }
 }
 
-// Every word as before.
-fn clear(words: &mut [u32]) {
-    let mut i: usize = 0;
-    while i < words.len() {
-        words[i] = BEFORE;
-        i += 1;
-    }
-}
-
-// How many words from the front are as before.
-fn untouched(words: &[u32]) -> usize {
-    let mut i: usize = 0;
-    while i < words.len() {
-        if words[i] != BEFORE {
-            return i;
-        }
-        i += 1;
-    }
-    i
+// Whether every word is as before.
+fn untouched(words: &[u32]) -> bool {
+    words.iter().all(|word| *word == BEFORE)
 }
 
 // A word in eight hex digits.
@@ -60,15 +39,27 @@ fn print_word<W: Write>(word: u32, printer: &mut W) {
 
 // Words, eight a line.
 fn print_words<W: Write>(words: &[u32], printer: &mut W) {
-    let mut i: usize = 0;
-    while i < words.len() {
-        print_word(words[i], printer);
-        i += 1;
-        if (i % 8 == 0) | (i == words.len()) {
-            ports::write_all(printer, b"\n");
-        } else {
+    for line in words.chunks(8) {
+        print_words_of_line(line, printer);
+        ports::write_all(printer, b"\n");
+    }
+}
+
+// The words of a line, with spaces between.
+fn print_words_of_line<W: Write>(line: &[u32], printer: &mut W) {
+    for (i, word) in line.iter().enumerate() {
+        if i > 0 {
             ports::write_all(printer, b" ");
         }
+        print_word(*word, printer);
+    }
+}
+
+// The number of an answer, 0 where there is none.
+fn number_of(answer: Result<(), TooShort>) -> u64 {
+    match answer {
+        Ok(()) => 0,
+        Err(refusal) => refusal.number() as u64,
     }
 }
 
@@ -81,11 +72,14 @@ fn print_line<W: Write>(text: &[u8], n: u64, printer: &mut W) {
 
 // What an output that is shorter by one word is left as.
 fn refused<W: Write>(input: &[u32], output: &mut [u32], printer: &mut W) {
-    clear(output);
-    print_line(b"short ", bitplanes::turn(input, output) as u64, printer);
-    let n = untouched(output);
-    if n == output.len() {
-        ports::print_decimal(printer, n as u64);
+    output.fill(BEFORE);
+    print_line(
+        b"short ",
+        number_of(bitplanes::turn(input, output)),
+        printer,
+    );
+    if untouched(output) {
+        ports::print_decimal(printer, output.len() as u64);
         ports::write_all(printer, b" words as they were\n");
     } else {
         ports::write_all(printer, b"written\n");
@@ -106,13 +100,17 @@ fn turned<W: Write>(
     put_list(input);
     ports::write_all(printer, b"input\n");
     print_words(input, printer);
-    clear(output);
-    print_line(b"turned ", bitplanes::turn(input, output) as u64, printer);
+    output.fill(BEFORE);
+    print_line(
+        b"turned ",
+        number_of(bitplanes::turn(input, output)),
+        printer,
+    );
     print_words(output, printer);
-    clear(again);
+    again.fill(BEFORE);
     print_line(
         b"again ",
-        bitplanes::turn(&output[..n], again) as u64,
+        number_of(bitplanes::turn(&output[..n], again)),
         printer,
     );
     print_words(again, printer);
@@ -144,9 +142,9 @@ fn case<W: Write>(
 
 fn main(rt: HostRuntime) {
     let mut printer = rt.stdout();
-    let mut input = room();
-    let mut output = room();
-    let mut again = room();
+    let mut input = [BEFORE; ROOM];
+    let mut output = [BEFORE; ROOM];
+    let mut again = [BEFORE; ROOM];
     case(0, &mut input, &mut output, &mut again, &mut printer);
     case(1, &mut input, &mut output, &mut again, &mut printer);
     case(31, &mut input, &mut output, &mut again, &mut printer);

@@ -1,6 +1,7 @@
 -- What the recorder stores: bytes, 4 a word and the lowest first, with each full group of 32 words turned; what lies behind the last full group is passed through as it is.
 -- Paper 02, K8. That these are the words turned, and that turning again brings the bytes back, stands in Promise.
-use Rattle.std.specs.Prelude.{List, ◌++◌, ℕ, zero, suc, ◌/◌, length, take, drop}
+use Rattle.std.specs.Prelude.{List, ◌++◌, ℕ, zero, suc, ◌/◌, length, take, drop, Result}
+use Rattle.bitplanes.specs.declared.TooShort.{TooShort}
 use Rattle.bitplanes.specs.Turned.{turned_group, in_groups, filled}
 use Rattle.events.specs.Bytes.{words_in, bytes_of}
 
@@ -17,7 +18,7 @@ abbrev pub stored : List ℕ → List ℕ
 stored bytes = in_groups group_bytes turned_bytes (length bytes / group_bytes) bytes
 
 -- what `turn` answers and leaves in the output slice
-abbrev pub stored_into : List ℕ → List ℕ → ℕ × List ℕ
+abbrev pub stored_into : List ℕ → List ℕ → Result Unit TooShort × List ℕ
 stored_into bytes old = filled bytes (stored bytes) old
 
 -- n pieces of size bytes stored one after the other, and what is left behind them

@@ -2,31 +2,22 @@
 // Uses `recorder` for what is stored, and `ports` to read and write.
 #![tactic(auto)]
 
-ghost use Rattle.std.specs.Prelude.{◌≡◌, length};
-
 use std::io::{Read, Write};
 
 // The bytes of a piece: 64 groups of 32 words.
 const PIECE: usize = 8192;
 
-// Room for a piece.
-fn room() -> [u8; 8192]
-    ensures { 8192 ≡ length result }
-{
-    [0; 8192]
-}
-
-// Stores the input to its end, a piece a turn; the last one is shorter. The turns are counted down from a number that no input uses up.
+// Stores the input to its end, a piece a turn; the last one is shorter. There are more turns than any input uses up.
 pub fn run<R: Read, W: Write>(reader: &mut R, writer: &mut W) {
-    let mut input = room();
-    let mut output = room();
-    let mut turns = u64::MAX;
-    while turns > 0 {
+    let mut input = [0; PIECE];
+    let mut output = [0; PIECE];
+    'pieces: for _ in 0..u64::MAX {
         let n = ports::read_full(reader, &mut input);
-        recorder::turn(&input[..n], &mut output);
+        if recorder::turn(&input[..n], &mut output).is_err() {
+            return;
+        }
         if !(ports::write_all(writer, &output[..n]) & (n == PIECE)) {
             return;
         }
-        turns -= 1;
     }
 }

@@ -1,48 +1,41 @@
--- `bitplanes::turn` meets its contract. The loop's invariant: the copy with its groups turned is the output up to `at` and what is left of the groups.
-use mathlib.Core.Path.{◌≡◌, refl, sym, ap, ◌∙◌}
+-- `bitplanes::turn` meets its contract. The loop's invariant: the copy with its groups turned is the output up to group k and what is left of the groups.
+use mathlib.Core.Path.{◌≡◌, sym, ap, ◌∙◌}
 use mathlib.Core.List.{List, ◌++◌}
-use Prim.Native.Nat.{ℕ, suc, ◌+◌, ◌-◌, ◌/◌}
+use Prim.Native.Nat.{ℕ, suc, ◌+◌, ◌-◌, ◌*◌, ◌/◌}
 use native.Mathlib.Omega.{arith}
 use borrow.Author.Rules.{rules}
-use borrow.Author.Tests.{lt-ltb, le-ltb}
+use borrow.Author.Tests.{le-ltb}
 use lib.ListN.{length, take, drop, take-append-drop}
+use Rattle.std.specs.Prelude.{Ok}
 use Rattle.bitplanes.specs.Turned.{turned_group, in_groups, turned}
 use Rattle.bitplanes.proofs.GroupLaws.{groups-append, group-next}
 use Rattle.bitplanes.proofs.TurnedLaws.{group-keeps}
 use Rattle.bitplanes.proofs.turn.Goals as goal
 
-pub returns-then-output-n : goal.returns-then-output-n
-returns-then-output-n c = let start = c in
-    rw (lt-ltb (length start.args.output.now) (length start.args.input.now) (omega arith))
-
-pub loop-at-init : goal.loop-at-init
-loop-at-init c = (search rules, search rules, refl, ap (λ (k : ℕ). in_groups 32 turned_group (k / 32) c.copy.new.d) (omega arith))
-
-pub loop-at-preserved : goal.loop-at-preserved
-loop-at-preserved c = let call = c in
-    let at = call in
-    let start = at in
-    let n = length start.args.input.now in
-    let k : (n - at.loop-at.at) / 32 ≡ suc ((n - (at.loop-at.at + 32)) / 32) = omega arith in (
+pub loop-k-preserved : goal.loop-k-preserved
+loop-k-preserved c =
+    let n = length c.args.input.now in
+    let k = c.loop-k.k in
+    let o = c.loop-k.output in
+    let left : n / 32 - k ≡ suc (n / 32 - (k + 1)) = omega arith in
+    let next : k * 32 + 32 ≡ (k + 1) * 32 = omega arith in (
       search rules,
-      search rules,
-      search rules,
-      at.loop-at.invariant.3 ∙ ap (λ (x : ℕ). take at.loop-at.at at.loop-at.output ++ in_groups 32 turned_group x (drop at.loop-at.at at.loop-at.output)) k
-          ∙ group-next 32 turned_group group-keeps at.loop-at.output call.turn_group.new.g at.loop-at.at ((n - (at.loop-at.at + 32)) / 32) (at.loop-at.at + 32 - at.loop-at.at)
-          (omega arith) (omega arith) call.turn_group.ensures,
+      c.loop-k.invariant.1 ∙ ap (λ (x : ℕ). take (k * 32) o ++ in_groups 32 turned_group x (drop (k * 32) o)) left
+          ∙ group-next 32 turned_group group-keeps o c.turn_group.new.g (k * 32) (n / 32 - (k + 1)) (k * 32 + 32 - k * 32) (omega arith) (omega arith) c.turn_group.ensures
+          ∙ rw next,
     )
 
 pub returns : goal.returns
 unfolding in_groups
-returns c = let at = c in
-    let copied = at in
-    let start = copied in
-    let ts = start.args.input.now in
-    let old = start.args.output.now in
+returns c =
+    let ts = c.args.input.now in
+    let old = c.args.output.now in
     let n = length ts in
-    let none : (n - at.loop-at.at) / 32 ≡ 0 = omega arith in
-    let all : at.loop-at.output ≡ turned ts ++ drop n old =
-    sym (take-append-drop at.loop-at.at at.loop-at.output)
-    ∙ ap (λ (k : ℕ). take at.loop-at.at at.loop-at.output ++ in_groups 32 turned_group k (drop at.loop-at.at at.loop-at.output)) (sym none)
-    ∙ sym at.loop-at.invariant.3 ∙ ap (in_groups 32 turned_group (n / 32)) copied.copy.ensures ∙ groups-append 32 turned_group (n / 32) ts (drop n old) (omega arith) in
-    rw (le-ltb _ _ copied.if-output-n.false) (ap (λ (x : List ℕ). (0, x)) all)
+    let at = c.loop-k.k * 32 in
+    let none : n / 32 - c.loop-k.k ≡ 0 = omega arith in
+    let all : c.loop-k.output ≡ turned ts ++ drop n old =
+    sym (take-append-drop at c.loop-k.output)
+    ∙ ap (λ (k : ℕ). take at c.loop-k.output ++ in_groups 32 turned_group k (drop at c.loop-k.output)) (sym none)
+    ∙ sym c.loop-k.invariant.1 ∙ ap (λ (x : List ℕ). in_groups 32 turned_group (n / 32) (x ++ drop n old)) c.copy_from_slice.ensures.after
+    ∙ groups-append 32 turned_group (n / 32) ts (drop n old) (omega arith) in
+    rw (le-ltb _ _ c.if-output-n.false) (ap (λ (x : List ℕ). (Ok tt, x)) all)

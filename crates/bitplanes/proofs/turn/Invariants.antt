@@ -1,14 +1,11 @@
--- `bitplanes::turn` meets its contract. The loop's invariant: the copy with its groups turned is the output up to `at` and what is left of the groups.
+-- `bitplanes::turn` meets its contract. The loop's invariant: the copy with its groups turned is the output up to group k and what is left of the groups.
 use mathlib.Core.Path.{◌≡◌}
 use mathlib.Core.List.{◌++◌}
-use Prim.Native.Nat.{◌-◌, ◌/◌, ◌≤◌}
+use Prim.Native.Nat.{◌-◌, ◌*◌, ◌/◌}
 use lib.ListN.{length, take, drop}
 use Rattle.bitplanes.specs.Turned.{turned_group, in_groups}
 use Rattle.bitplanes.proofs.turn.Given as goal
 
-abbrev pub invariant-loop-at : goal.invariant-loop-at
-invariant-loop-at l =
-    (l.at ≤ l.n) × (l.n ≤ length l.output) × (length l.output ≡ length l.initial.output) × (in_groups 32 turned_group (l.n / 32) l.initial.output ≡ take l.at l.output ++ in_groups 32 turned_group ((l.n - l.at) / 32) (drop l.at l.output))
-
-abbrev pub decreases-loop-at : goal.decreases-loop-at
-decreases-loop-at l = l.n - l.at
+abbrev pub invariant-loop-k : goal.invariant-loop-k
+invariant-loop-k l =
+    (length l.output ≡ length l.initial.output) × (in_groups 32 turned_group (l.n / 32) l.initial.output ≡ take (l.k * 32) l.output ++ in_groups 32 turned_group (l.n / 32 - l.k) (drop (l.k * 32) l.output))

@@ -1,54 +1,42 @@
--- `recorder::turn` meets its contract. The loop's invariant: the copy with its groups turned is the output up to `at` and what is left of the groups.
-use mathlib.Core.Path.{◌≡◌, refl, sym, ap, ◌∙◌}
+-- `recorder::turn` meets its contract. The loop's invariant: the copy with its groups turned is the output up to group k and what is left of the groups.
+use mathlib.Core.Path.{◌≡◌, sym, ap, ◌∙◌}
 use mathlib.Core.List.{List, ◌++◌}
-use Prim.Native.Nat.{ℕ, suc, ◌+◌, ◌-◌, ◌/◌}
+use Prim.Native.Nat.{ℕ, suc, ◌+◌, ◌-◌, ◌*◌, ◌/◌}
 use native.Mathlib.Omega.{arith}
 use borrow.Author.Rules.{rules}
-use borrow.Author.Tests.{lt-ltb, le-ltb}
+use borrow.Author.Tests.{le-ltb}
 use lib.ListN.{length, take, drop, take-append-drop}
+use Rattle.std.specs.Prelude.{Ok}
 use Rattle.bitplanes.specs.Turned.{in_groups}
 use Rattle.bitplanes.proofs.GroupLaws.{groups-append, group-next}
 use Rattle.recorder.specs.Recorded.{turned_bytes, stored}
 use Rattle.recorder.proofs.RecordedLaws.{bytes-keep}
 use Rattle.recorder.proofs.turn.Goals as goal
 
-pub returns-then-output-n : goal.returns-then-output-n
-returns-then-output-n c = let start = c in
-    rw (lt-ltb (length start.args.output.now) (length start.args.input.now) (omega arith))
-
-pub loop-at-init : goal.loop-at-init
-loop-at-init c = (
-  search rules,
-  search rules,
-  refl,
-  ap (λ (k : ℕ). in_groups 128 turned_bytes (k / 128) (c.copy_from_slice.new.self ++ drop (length c.args.input.now) c.args.output.now)) (omega arith),
-)
-
-pub loop-at-preserved : goal.loop-at-preserved
-loop-at-preserved c = let call = c in
-    let at = call in
-    let start = at in
-    let n = length start.args.input.now in
-    let k : (n - at.loop-at.at) / 128 ≡ suc ((n - (at.loop-at.at + 128)) / 128) = omega arith in (
+pub loop-k-preserved : goal.loop-k-preserved
+loop-k-preserved c =
+    let n = length c.args.input.now in
+    let k = c.loop-k.k in
+    let o = c.loop-k.output in
+    let left : n / 128 - k ≡ suc (n / 128 - (k + 1)) = omega arith in
+    let next : k * 128 + 128 ≡ (k + 1) * 128 = omega arith in (
       search rules,
-      search rules,
-      search rules,
-      at.loop-at.invariant.3 ∙ ap (λ (x : ℕ). take at.loop-at.at at.loop-at.output ++ in_groups 128 turned_bytes x (drop at.loop-at.at at.loop-at.output)) k
-          ∙ group-next 128 turned_bytes bytes-keep at.loop-at.output call.turn_group.new.group at.loop-at.at ((n - (at.loop-at.at + 128)) / 128) (at.loop-at.at + 128 - at.loop-at.at)
-          (omega arith) (omega arith) call.turn_group.ensures,
+      c.loop-k.invariant.1 ∙ ap (λ (x : ℕ). take (k * 128) o ++ in_groups 128 turned_bytes x (drop (k * 128) o)) left
+          ∙ group-next 128 turned_bytes bytes-keep o c.turn_group.new.group (k * 128) (n / 128 - (k + 1)) (k * 128 + 128 - k * 128) (omega arith) (omega arith) c.turn_group.ensures
+          ∙ rw next,
     )
 
 pub returns : goal.returns
 unfolding in_groups
-returns c = let at = c in
-    let copied = at in
-    let start = copied in
-    let ts = start.args.input.now in
-    let old = start.args.output.now in
+returns c =
+    let ts = c.args.input.now in
+    let old = c.args.output.now in
     let n = length ts in
-    let none : (n - at.loop-at.at) / 128 ≡ 0 = omega arith in
-    let all : at.loop-at.output ≡ stored ts ++ drop n old =
-    sym (take-append-drop at.loop-at.at at.loop-at.output)
-    ∙ ap (λ (k : ℕ). take at.loop-at.at at.loop-at.output ++ in_groups 128 turned_bytes k (drop at.loop-at.at at.loop-at.output)) (sym none)
-    ∙ sym at.loop-at.invariant.3 ∙ ap (in_groups 128 turned_bytes (n / 128)) (ap (λ (x : List ℕ). x ++ drop n old) copied.copy_from_slice.ensures.after) ∙ groups-append 128 turned_bytes (n / 128) ts (drop n old) (omega arith) in
-    rw (le-ltb _ _ copied.if-output-n.false) (ap (λ (x : List ℕ). (0, x)) all)
+    let at = c.loop-k.k * 128 in
+    let none : n / 128 - c.loop-k.k ≡ 0 = omega arith in
+    let all : c.loop-k.output ≡ stored ts ++ drop n old =
+    sym (take-append-drop at c.loop-k.output)
+    ∙ ap (λ (k : ℕ). take at c.loop-k.output ++ in_groups 128 turned_bytes k (drop at c.loop-k.output)) (sym none)
+    ∙ sym c.loop-k.invariant.1 ∙ ap (λ (x : List ℕ). in_groups 128 turned_bytes (n / 128) (x ++ drop n old)) c.copy_from_slice.ensures.after
+    ∙ groups-append 128 turned_bytes (n / 128) ts (drop n old) (omega arith) in
+    rw (le-ltb _ _ c.if-output-n.false) (ap (λ (x : List ℕ). (Ok tt, x)) all)
