@@ -8,7 +8,6 @@ ghost use Rattle.state.specs.State.{state_of};
 ghost use Rattle.state.specs.Valid.{Good};
 
 use modbus::replies::Reply;
-use modbus::words;
 use state::{Live, State};
 use std::env::Env;
 
@@ -31,10 +30,8 @@ fn mixed(sum: u64, n: u64) -> u64 {
 // The sum after the bytes of a reply.
 fn with_bytes(sum: u64, bytes: &[u8]) -> u64 {
     let mut s = sum;
-    let mut i: usize = 0;
-    while i < bytes.len() {
-        s = mixed(s, words::wide(bytes[i]) as u64);
-        i += 1;
+    for b in bytes {
+        s = mixed(s, u64::from(*b));
     }
     s
 }
@@ -45,7 +42,7 @@ fn with_answer(sum: u64, reply: Reply, refusal: u8) -> u64
 {
     let bytes = reply.bytes;
     let n = reply.length;
-    mixed(with_bytes(sum, &bytes[..n]), refusal as u64)
+    mixed(with_bytes(sum, &bytes[..n]), u64::from(refusal))
 }
 
 // What an answer leaves beside the table.
@@ -68,7 +65,7 @@ fn serve(t: &mut [i32; 104], x: Summed, frame: &[u8]) -> Summed
     let reply = r.reply;
     Summed {
         live,
-        sum: with_answer(x.sum, reply, r.refusal),
+        sum: with_answer(x.sum, reply, r.number()),
     }
 }
 
@@ -78,16 +75,15 @@ fn serve_all(t: &mut [i32; 104], x: Summed, frames: &[u8]) -> Summed
     ensures { Good (state_of t.new result.live) }
 {
     let mut y = x;
-    let mut i: usize = 0;
-    while i + 2 <= frames.len() {
-        let n = words::number_of(frames[i + 1], frames[i]) as usize;
-        let from = i + 2;
-        if frames.len() - from < n {
+    let mut left = frames;
+    while let [low, high, rest @ ..] = left {
+        let n = usize::from(u16::from_le_bytes([*low, *high]));
+        if rest.len() < n {
             return y;
         }
-        let end = from + n;
-        y = serve(t, y, &frames[from..end]);
-        i = end;
+        let (frame, others) = rest.split_at(n);
+        y = serve(t, y, frame);
+        left = others;
     }
     y
 }
@@ -99,10 +95,8 @@ fn repeated(s: State, frames: &[u8], rounds: u64) -> u64
     let mut table = s.table;
     let l = s.live;
     let mut x = Summed { live: l, sum: 0 };
-    let mut left = rounds;
-    while left > 0 {
+    for _ in 0..rounds {
         x = serve_all(&mut table, x, frames);
-        left -= 1;
     }
     x.sum
 }

@@ -3,7 +3,7 @@
 -- Bytes are held until they end a frame. Whatever ends none goes on until silence, and is the frame then: so a broken frame takes all with it up to there,
 -- and so does one of more than 256 bytes, of which 257 are held.
 -- Main property: how the bytes are cut into pieces does not matter (PieceLaws, `fed-pieces` and `heard-pieces`).
-use Rattle.std.specs.Prelude.{true, false, cond, List, [], ◌∷◌, ℕ, ◌+◌, eqb, ltb, leb, length, take, set, replicate}
+use Rattle.std.specs.Prelude.{true, false, cond, List, [], ◌∷◌, ℕ, ◌+◌, eqb, ltb, leb, take, set, replicate}
 use Rattle.modbus.specs.Request.{most_bytes}
 use Rattle.framing.specs.Ends.{is_foreign, stops}
 use Rattle.framing.specs.declared.Collector.{Collector}

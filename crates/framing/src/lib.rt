@@ -6,8 +6,6 @@ ghost use Rattle.std.specs.Prelude.{◌≡◌, ◌≤◌, ◌<◌, length, drop}
 ghost use Rattle.framing.specs.Ends.{is_request, is_reply_long, is_reply, is_foreign};
 ghost use Rattle.framing.specs.Collector.{most_held, held_length, emptied, closed, fresh_collector, judged, added, kept, pushed, quieted, fed_to};
 
-use modbus::words;
-
 // The bytes that are held at most: one more than a frame has, so that a longer one is seen to be too long.
 const MOST_HELD: usize = modbus::MOST_BYTES + 1;
 
@@ -47,7 +45,7 @@ fn reply_long(f: &[u8]) -> bool
     }
     let function = f[1];
     if function == modbus::READ {
-        return f.len() > 5 && f.len() == 5 + words::wide(f[2]);
+        return f.len() > 5 && f.len() == 5 + usize::from(f[2]);
     }
     if function == modbus::WRITE {
         return f.len() == 8;

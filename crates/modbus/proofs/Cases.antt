@@ -2,8 +2,9 @@
 use Rattle.std.specs.Prelude.{◌≡◌, refl, List, [], ◌∷◌, ℕ, pos, negsuc}
 use Rattle.integers.specs.TwosComplement.{bits_of}
 use Rattle.modbus.specs.Crc.{bit_step, bit_steps, byte_step, crc_from, crc_of, sealed}
+use Rattle.modbus.specs.declared.Exception.TheVariants.{Function, Address, Value}
 use Rattle.modbus.specs.declared.Request.TheVariants.{Broken, Ignored, Exception, Read}
-use Rattle.modbus.specs.Request.{is_misfit, crc_right, is_broken, is_mapped, is_unknown, wrong_amount, wrong_start, request_in, replied, silent, asked_of}
+use Rattle.modbus.specs.Request.{is_misfit, crc_right, is_broken, is_mapped, is_unknown, wrong_amount, wrong_start, request_in, exception_code, replied, silent, asked_of}
 use Rattle.modbus.specs.Replies.{read_frame, write_frame, write_reply, exception_reply}
 
 -- lists of bytes
@@ -39,20 +40,28 @@ pub write-taken : write_reply 0x11 1 ≡ eight 0x11 0x10 0x00 0x01 0x00 0x02 0x1
 unfolding write_reply sealed crc_from byte_step bit_steps bit_step
 write-taken = refl
 
-pub refused : exception_reply 0x0A 1 2 ≡ five 0x0A 0x81 0x02 0xB0 0x53 []
+pub refused : exception_reply 0x0A 1 (exception_code Address) ≡ five 0x0A 0x81 0x02 0xB0 0x53 []
 unfolding exception_reply sealed crc_from byte_step bit_steps bit_step
 refused = refl
 
+pub unknown-refused : exception_reply 0x11 4 (exception_code Function) ≡ five 0x11 0x84 0x01 0x83 0x05 []
+unfolding exception_reply sealed crc_from byte_step bit_steps bit_step
+unknown-refused = refl
+
+pub amount-refused : exception_reply 0x11 3 (exception_code Value) ≡ five 0x11 0x83 0x03 0x00 0xF4 []
+unfolding exception_reply sealed crc_from byte_step bit_steps bit_step
+amount-refused = refl
+
 -- what is asked: an unknown function, of three registers; three registers from an odd one; an odd one
-pub unknown-function : asked_of 0x11 (eight 0x11 0x04 0x00 0x6B 0x00 0x03 0xC3 0x47) ≡ replied (Exception 4 1)
+pub unknown-function : asked_of 0x11 (eight 0x11 0x04 0x00 0x6B 0x00 0x03 0xC3 0x47) ≡ replied (Exception 4 Function)
 unfolding asked_of is_broken is_misfit crc_right request_in is_unknown crc_from byte_step bit_steps bit_step
 unknown-function = refl
 
-pub three-registers : asked_of 0x11 (eight 0x11 0x03 0x00 0x6B 0x00 0x03 0x76 0x87) ≡ replied (Exception 3 3)
+pub three-registers : asked_of 0x11 (eight 0x11 0x03 0x00 0x6B 0x00 0x03 0x76 0x87) ≡ replied (Exception 3 Value)
 unfolding asked_of is_broken is_misfit crc_right request_in is_unknown wrong_amount crc_from byte_step bit_steps bit_step
 three-registers = refl
 
-pub odd-register : asked_of 0x11 (thirteen 0x11 0x10 0x00 0x01 0x00 0x02 0x04 0x00 0x0A 0x01 0x02 0xC6 0xF0) ≡ replied (Exception 16 2)
+pub odd-register : asked_of 0x11 (thirteen 0x11 0x10 0x00 0x01 0x00 0x02 0x04 0x00 0x0A 0x01 0x02 0xC6 0xF0) ≡ replied (Exception 16 Address)
 unfolding asked_of is_broken is_misfit crc_right request_in is_unknown wrong_amount wrong_start is_mapped crc_from byte_step bit_steps bit_step
 odd-register = refl
 

@@ -1,13 +1,16 @@
 -- What is asked lies in the map; and a frame that is not broken is broken once a single byte of it is changed.
-use Rattle.std.specs.Prelude.{◌≡◌, refl, Bool, true, false, cond, not, List, [], ◌∷◌, ◌++◌, ℕ, zero, suc, ◌+◌, ◌-◌, ◌*◌, ◌/◌, ◌%◌, ◌≤◌, ◌<◌, eqb, ltb, leb, ℤ, length, get_or, take, drop, set}
+use Rattle.std.specs.Prelude.{◌≡◌, refl, Bool, true, false, cond, not, Option, None, Some, List, [], ◌∷◌, ◌++◌, ℕ, zero, suc, ◌-◌, ◌*◌, ◌/◌, ◌%◌, ◌≤◌, ◌<◌, eqb, ltb, leb, ℤ, length, get_or, take, drop, set}
 use Rattle.std.proofs.Common.{sym, ap, ap₂, ◌∙◌, arith, ltb-true, eqb-true, lit<, take-append-drop, drop_of_length-le, drop-cons}
 use Rattle.std.proofs.lemmas.Bool.{false≢true, not-false}
 use Rattle.integers.specs.TestLaws.{or-both, and_both}
 use Rattle.modbus.specs.Crc.{crc_start, crc_of, crc_bytes}
 use Rattle.modbus.proofs.CrcLaws.{Bytes, crc-append, own-crc, one_byte}
 use Rattle.modbus.specs.Words.{number}
-use Rattle.modbus.specs.Request.{is_write, crc_right, is_broken, slot_count, shown_register, is_slot_start, is_mapped, is_unknown, wrong_amount, wrong_start, start_in, value_in, exception, request_in}
+use Rattle.modbus.specs.Request.{frame_number, is_write, crc_right, is_broken, slot_count, shown_register, is_slot_start, is_mapped, is_unknown, wrong_amount, wrong_start, start_in, value_in, exception, request_in}
 use Rattle.modbus.proofs.WholeLaws.{whole}
+use Rattle.modbus.specs.declared.Refusal.{Refusal}
+use Rattle.modbus.specs.declared.Refusal.TheVariants.{BrokenFrame}
+use Rattle.modbus.specs.declared.Exception.TheVariants.{Function, Address, Value}
 use Rattle.modbus.specs.declared.Request.{Request}
 use Rattle.modbus.specs.declared.Request.TheVariants.{Broken, Ignored, Exception, Read, Write}
 
@@ -34,7 +37,7 @@ write-mapped-to f e w = slot-start (start_in f) (start-mapped f e) (rw w at (or-
 abbrev is_done : Request → Bool
 is_done Broken = false
 is_done Ignored = false
-is_done (Exception function code) = false
+is_done (Exception function reason) = false
 is_done (Read r) = true
 is_done (Write r z) = true
 
@@ -46,8 +49,8 @@ passed : (f : List ℕ) → is_done (request_in f) ≡ true → (wrong_start f �
 unfolding request_in
 passed f e = by (is_unknown f) (wrong_amount f) (wrong_start f) refl e
   where
-    by : (u a s : Bool) → wrong_start f ≡ s → is_done (cond u (exception f 1) (cond a (exception f 3) (cond s (exception f 2) (done f)))) ≡ true
-        → (s ≡ false) × (cond u (exception f 1) (cond a (exception f 3) (cond s (exception f 2) (done f))) ≡ done f)
+    by : (u a s : Bool) → wrong_start f ≡ s → is_done (cond u (exception f Function) (cond a (exception f Value) (cond s (exception f Address) (done f)))) ≡ true
+        → (s ≡ false) × (cond u (exception f Function) (cond a (exception f Value) (cond s (exception f Address) (done f))) ≡ done f)
     by true a s p k = absurd (false≢true k)
     by false true s p k = absurd (false≢true k)
     by false false true p k = absurd (false≢true k)
@@ -76,6 +79,11 @@ write-mapped f r z e = by (is_write f) refl (sym p.1 ∙ e)
         let s : start_in f ≡ r = cc in
         rw s at (write-mapped-to f p.0 q)
     by false q k = let z : ◌≡◌ {A = ℕ} 0 1 = cc in absurd (omega arith)
+
+-- ---- only a frame that is not refused has the number 0
+pub told : (r : Option Refusal) → frame_number r ≡ 0 → r ≡ None
+told None e = refl
+told (Some BrokenFrame) e = absurd (omega arith)
 
 -- ---- one byte changed
 -- the last two bytes of a list

@@ -5,6 +5,7 @@ use Rattle.std.specs.Int.Signed.{mag}
 use Rattle.modbus.specs.Crc.{crc_of, crc_bytes, sealed}
 use Rattle.modbus.specs.Words.{number, number_bytes, word_bytes, word_from}
 use Rattle.modbus.proofs.WordLaws.{number-back, word_back}
+use Rattle.modbus.specs.declared.Exception.TheVariants.{Address}
 use Rattle.modbus.specs.declared.Request.TheVariants.{Broken, Ignored, Exception, Read, Write}
 use Rattle.modbus.specs.Request.{address_in, read_function, write_function, is_write, is_misfit, crc_right, is_broken, shown_register, is_mapped, is_unknown, wrong_amount, wrong_start, request_in, replied, silent, asked_of}
 use Rattle.modbus.specs.Replies.{read_frame, write_frame, read_reply}
@@ -78,7 +79,7 @@ unfolding write_frame sealed
 write-asked-of-all node r z m s h = write-to-all node (write_frame 0 r z) (write-whole 0 r z) refl refl ∙ ap silent (write-request 0 r z m s h)
 
 -- to the shown value: refused
-pub shown-write-refused : (node : ℕ) (z : ℤ) → (node ≡ 0 → ⊥) → asked_of node (write_frame node shown_register z) ≡ replied (Exception 16 2)
+pub shown-write-refused : (node : ℕ) (z : ℤ) → (node ≡ 0 → ⊥) → asked_of node (write_frame node shown_register z) ≡ replied (Exception 16 Address)
 unfolding write_frame sealed request_in is_unknown wrong_amount wrong_start is_mapped
 shown-write-refused node z n = to-node node (write_frame node shown_register z) (write-whole node shown_register z) refl n
 

@@ -1,5 +1,5 @@
 // The byte side of a Modbus RTU slave: what a frame asks, and the bytes of every reply. It knows frames and registers, and nothing of the panel.
-// Uses `integers` for signed words.
+// Its definitions use `integers` for signed words.
 #![tactic(auto)]
 
 mod checksum; // checksum.rt: the CRC
@@ -7,11 +7,10 @@ pub mod replies; // replies.rt: the bytes of a reply
 pub mod words; // words.rt: numbers of 16 bits and their bytes
 
 ghost use Rattle.std.specs.Prelude.{false, ◌≡◌, ◌≤◌, length};
-ghost use Rattle.modbus.specs.Request.{start_in, value_in, is_misfit, crc_right, is_broken, is_mapped, is_unknown, wrong_amount, wrong_start, request_in, asked_of};
-
-use integers::twos_complement;
+ghost use Rattle.modbus.specs.Request.{start_in, value_in, is_misfit, crc_right, is_broken, is_mapped, is_unknown, wrong_amount, wrong_start, request_in, refusal_number, exception_code, asked_of};
 
 // The function that reads.
+// Kept: a number and no enum: a frame's second byte is one of 256, and is compared and sent as it is.
 pub const READ: u8 = 3;
 
 // The function that writes.
@@ -26,6 +25,48 @@ const SLOT_REGISTERS: u16 = 2 * 104;
 // The first of the two registers of the shown value.
 pub const SHOWN_REGISTER: u16 = 0x1000;
 
+// Why a frame is refused, without a reply.
+#[derive(Clone, Copy)]
+pub enum Refusal {
+    // It is no frame, or one with a wrong length or CRC.
+    BrokenFrame,
+}
+
+// The refusal's number.
+impl From<Refusal> for u8 {
+    ghost from_gives = { λ r number. number ≡ refusal_number r };
+
+    fn from(value: Refusal) -> u8 {
+        match value {
+            Refusal::BrokenFrame => 20,
+        }
+    }
+}
+
+// Why a request is refused, by an exception.
+#[derive(Clone, Copy)]
+pub enum Exception {
+    // The function is none of the two.
+    Function,
+    // No word starts at the start register, or it is a write to the shown value.
+    Address,
+    // The quantity is not 2, or the byte count of a write not 4.
+    Value,
+}
+
+// The exception's code in a reply.
+impl From<Exception> for u8 {
+    ghost from_gives = { λ e code. code ≡ exception_code e };
+
+    fn from(value: Exception) -> u8 {
+        match value {
+            Exception::Function => 1,
+            Exception::Address => 2,
+            Exception::Value => 3,
+        }
+    }
+}
+
 // What a frame asks.
 #[derive(Clone, Copy)]
 pub enum Request {
@@ -33,8 +74,8 @@ pub enum Request {
     Broken,
     // For another node, or for all of them and no write.
     Ignored,
-    // Refused, with the function asked for and the exception's code.
-    Exception(u8, u8),
+    // Refused, with the function asked for and the reason.
+    Exception(u8, Exception),
     // A read of the word that starts at this register: an even one from 0 to 206, or hex 1000.
     Read(u16),
     // A write of a word that starts at this register: an even one from 0 to 206.
@@ -60,7 +101,7 @@ fn misfit(f: &[u8]) -> bool
         return f.len() != 8;
     }
     if function == WRITE {
-        return f.len() < 9 || f.len() != 9 + words::wide(f[6]);
+        return f.len() < 9 || f.len() != 9 + usize::from(f[6]);
     }
     false
 }
@@ -131,9 +172,7 @@ fn value_of(f: &[u8]) -> i32
     requires { 11 ≤ length f.now }
     ensures { result ≡ value_in f.now }
 {
-    let low = words::number_of(f[7], f[8]);
-    let high = words::number_of(f[9], f[10]);
-    twos_complement::signed((high as u32) * 0x1_0000 + (low as u32))
+    i32::from_be_bytes([f[9], f[10], f[7], f[8]])
 }
 
 // What a frame asks that is not broken.
@@ -142,13 +181,13 @@ fn requested(f: &[u8]) -> Request
     ensures { result ≡ request_in f.now }
 {
     if unknown(f) {
-        return Request::Exception(f[1], 1);
+        return Request::Exception(f[1], Exception::Function);
     }
     if wrong_amount(f) {
-        return Request::Exception(f[1], 3);
+        return Request::Exception(f[1], Exception::Value);
     }
     if wrong_start(f) {
-        return Request::Exception(f[1], 2);
+        return Request::Exception(f[1], Exception::Address);
     }
     if f[1] == WRITE {
         return Request::Write(start_of(f), value_of(f));

@@ -1,5 +1,5 @@
 -- What holds of every frame, node and state; then what a master's reads and writes give. Request K2.
-use Rattle.std.specs.Prelude.{◌≡◌, refl, Bool, true, false, cond, List, [], ℕ, ◌*◌, ◌/◌, ◌%◌, ◌^◌, ◌≤◌, ◌<◌, eqb, ℤ, pos, get_or, set}
+use Rattle.std.specs.Prelude.{◌≡◌, refl, Bool, true, false, cond, Option, None, Some, List, [], ℕ, ◌*◌, ◌/◌, ◌%◌, ◌^◌, ◌≤◌, ◌<◌, eqb, ℤ, pos, get_or, set}
 use Rattle.std.proofs.Math.Path.{sym}
 use Rattle.std.proofs.Common.{subst, ap, ◌∙◌, length-set}
 use native.Mathlib.Omega.{arith}
@@ -12,12 +12,15 @@ use Rattle.state.proofs.ValidLaws.{good-fresh}
 use Rattle.state.specs.State.{state_of, fresh_of, reread_of}
 use Rattle.state.specs.Valid.{Good}
 use Rattle.integers.specs.ChoiceLaws.{by-test, is_true}
+use Rattle.modbus.specs.declared.Refusal.{Refusal}
+use Rattle.modbus.specs.declared.Refusal.TheVariants.{BrokenFrame}
+use Rattle.modbus.specs.declared.Exception.TheVariants.{Value}
 use Rattle.modbus.specs.declared.Request.{Request}
 use Rattle.modbus.specs.declared.Request.TheVariants.{Broken, Ignored, Exception, Read, Write}
 use Rattle.modbus.specs.declared.Demand.{Demand}
 use Rattle.modbus.specs.declared.replies.Reply.{Reply}
 use Rattle.modbus.proofs.CrcLaws.{Bytes}
-use Rattle.modbus.specs.Request.{address_in, is_broken, write_function, shown_register, is_mapped, silent, asked_of}
+use Rattle.modbus.specs.Request.{address_in, is_broken, write_function, shown_register, is_mapped, exception_code, silent, asked_of}
 use Rattle.modbus.proofs.RequestLaws.{one-byte-seen}
 use Rattle.modbus.proofs.RoundTripLaws.{read_asked, write-asked, write-asked-of-all}
 use Rattle.modbus.specs.Crc.{sealed}
@@ -36,24 +39,24 @@ use Rattle.registers.specs.Serve.{Served, word_in, sent, unchanged, written_tabl
 
 -- a frame changes nothing, or it is a write carried out, of a table that loads
 by_written : (node : ℕ) (s : State) (due : Bool) (register : ℕ) (z : ℤ) (Q : Served → Type 0) →
-    ((reply : Reply) (n : ℕ) → Q (unchanged s reply n)) →
+    ((reply : Reply) (r : Option Refusal) → Q (unchanged s reply r)) →
     (load_refusal (written_table s register z) ≡ 0 → Q (carried_out node s due register z)) → Q (written_of node s due register z)
 unfolding written_of
 by_written node s due register z Q same carried =
     by-test (eqb (load_refusal (written_table s register z)) 0) _ _ Q (λ t. carried (eqb-true _ 0 (is_true _ t))) (λ _. same _ _)
 
 by-request : (node : ℕ) (s : State) (due : Bool) (q : Request) (Q : Served → Type 0) →
-    ((reply : Reply) (n : ℕ) → Q (unchanged s reply n)) →
+    ((reply : Reply) (r : Option Refusal) → Q (unchanged s reply r)) →
     ((register : ℕ) (z : ℤ) → load_refusal (written_table s register z) ≡ 0 → Q (carried_out node s due register z)) → Q (request_of node s due q)
 unfolding request_of
 by-request node s due Broken Q same carried = same _ _
 by-request node s due Ignored Q same carried = same _ _
-by-request node s due (Exception function code) Q same carried = same _ _
+by-request node s due (Exception function exception) Q same carried = same _ _
 by-request node s due (Read register) Q same carried = same _ _
 by-request node s due (Write register z) Q same carried = by_written node s due register z Q same (carried register z)
 
 pub by-served : (node : ℕ) (s : State) (f : List ℕ) (Q : Served → Type 0) →
-    ((reply : Reply) (n : ℕ) → Q (unchanged s reply n)) →
+    ((reply : Reply) (r : Option Refusal) → Q (unchanged s reply r)) →
     ((register : ℕ) (z : ℤ) → load_refusal (written_table s register z) ≡ 0 → Q (carried_out node s (asked_of node f).reply register z)) → Q (served_of node s f)
 unfolding served_of
 by-served node s f Q same carried = by-request node s (asked_of node f).reply (asked_of node f).request Q same carried
@@ -62,7 +65,7 @@ by-served node s f Q same carried = by-request node s (asked_of node f).reply (a
 pub good-served : (node : ℕ) {s : State} → Good s → (f : List ℕ) → Good (served_of node s f).state
 unfolding fresh_of
 good-served node {s} g f =
-    by-served node s f (λ (x : Served). Good x.state) (λ reply n. g)
+    by-served node s f (λ (x : Served). Good x.state) (λ reply r. g)
     (λ register z e. let g = good-fresh (loads (written_table s register z) e) in record { table = g.table; result = g.result; drive = g.drive; driven = g.driven })
 
 -- every reply fits
@@ -75,12 +78,12 @@ request-fits : (node : ℕ) (s : State) (due : Bool) (q : Request) → (request_
 unfolding request_of written_of packed sealed exception_reply read_reply write_reply
 request-fits node s due Broken = omega arith
 request-fits node s due Ignored = omega arith
-request-fits node s due (Exception function code) = sent-fits due _ (omega arith)
+request-fits node s due (Exception function exception) = sent-fits due _ (omega arith)
 request-fits node s due (Read register) = sent-fits due _ (omega arith)
 request-fits node s due (Write register z) =
     by-test (eqb (load_refusal (written_table s register z)) 0) _ _ (λ (x : Served). x.reply.length ≤ longest_reply)
     (λ _. sent-fits _ (packed (write_reply node register)) (omega arith))
-    (λ _. sent-fits _ (packed (exception_reply node write_function 3)) (omega arith))
+    (λ _. sent-fits _ (packed (exception_reply node write_function (exception_code Value))) (omega arith))
 
 pub reply-fits : (node : ℕ) (s : State) (f : List ℕ) → (served_of node s f).reply.length ≤ longest_reply
 unfolding served_of
@@ -98,7 +101,7 @@ promised node s f x g is = (
 
 -- A FRAME THAT IS NOT A WRITE CARRIED OUT CHANGES NOTHING AT ALL
 pub still : (node : ℕ) (s : State) (f : List ℕ) → (served_of node s f).afresh ≡ false → (served_of node s f).state ≡ s
-still node s f = by-served node s f (λ (x : Served). x.afresh ≡ false → x.state ≡ s) (λ reply n e. refl) (λ register z e k. let w : ◌≡◌ {A = ℕ} 0 1 = cc in absurd (omega arith))
+still node s f = by-served node s f (λ (x : Served). x.afresh ≡ false → x.state ≡ s) (λ reply r e. refl) (λ register z e k. let w : ◌≡◌ {A = ℕ} 0 1 = cc in absurd (omega arith))
 
 -- A WRITE CARRIED OUT STARTS AFRESH with a table that loads
 pub record Afresh (s : State) : Type 0 where
@@ -109,7 +112,7 @@ pub afresh : (node : ℕ) (s : State) (f : List ℕ) → (served_of node s f).af
 unfolding fresh_of
 afresh node s f =
     by-served node s f (λ (x : Served). x.afresh ≡ true → Afresh x.state)
-    (λ reply n k. let w : ◌≡◌ {A = ℕ} 0 1 = cc in absurd (omega arith))
+    (λ reply r k. let w : ◌≡◌ {A = ℕ} 0 1 = cc in absurd (omega arith))
     (λ register z e k. record { loads = e; fresh = refl })
 
 -- ---- whom a frame is for
@@ -125,7 +128,7 @@ not-due : (node : ℕ) (s : State) (q : Request) → (request_of node s false q)
 unfolding request_of written_of sent
 not-due node s Broken = refl
 not-due node s Ignored = refl
-not-due node s (Exception function code) = refl
+not-due node s (Exception function exception) = refl
 not-due node s (Read register) = refl
 not-due node s (Write register z) = by-test (eqb (load_refusal (written_table s register z)) 0) _ _ (λ (x : Served). x.reply ≡ packed []) (λ _. refl) (λ _. refl)
 
@@ -155,7 +158,7 @@ no-change-by-others node s f z n = rw (others-still node f z n) (by (is_broken f
 
 -- A FRAME IN WHICH ONE BYTE WAS CHANGED IS 20, whatever it asked
 pub one-byte-changed : (node : ℕ) (s : State) (f : List ℕ) (i b : ℕ) → Bytes f → b < 256 → i < length f → is_broken f ≡ false → (b ≡ get_or f i 0 → ⊥) →
-    served_of node s (set f i b) ≡ unchanged s (packed []) 20
+    served_of node s (set f i b) ≡ unchanged s (packed []) (Some BrokenFrame)
 unfolding served_of asked_of request_of
 one-byte-changed node s f i b g h k w n = rw (one-byte-seen f i b g h k w n)
 
@@ -167,7 +170,7 @@ slot-mapped n h = rw (ne_eqb (2 * n) shown_register (λ e. omega arith), lt-ltb 
 
 module _ (node : ℕ) (s : State) (n : ℕ) (h : n < 104) where
   -- slot n is read as the word in force
-  pub slot_read : (node ≡ 0 → ⊥) → served_of node s (read_frame node (2 * n)) ≡ unchanged s (packed (read_reply node (word_at s.table n))) 0
+  pub slot_read : (node ≡ 0 → ⊥) → served_of node s (read_frame node (2 * n)) ≡ unchanged s (packed (read_reply node (word_at s.table n))) None
   unfolding served_of request_of sent word_in
   slot_read z =
       let half : 2 * n / 2 ≡ n = omega arith in
@@ -193,7 +196,7 @@ module _ (node : ℕ) (s : State) (n : ℕ) (h : n < 104) (z : ℤ) (o : node �
 
   read_back_lem : (written_of node s true (2 * n) z).afresh ≡ true → (served_of node (written_of node s true (2 * n) z).state (read_frame node (2 * n))).reply ≡ packed (read_reply node z)
   read_back_lem = by_written node s true (2 * n) z (λ (x : Served). x.afresh ≡ true → (served_of node x.state (read_frame node (2 * n))).reply ≡ packed (read_reply node z))
-      (λ reply m k. let w : ◌≡◌ {A = ℕ} 0 1 = cc in absurd (omega arith))
+      (λ reply r k. let w : ◌≡◌ {A = ℕ} 0 1 = cc in absurd (omega arith))
       (λ e k. ap Served.reply (slot_read node (fresh_of (written_table s (2 * n) z)) n h o) ∙ ap (λ (y : ℤ). packed (read_reply node y)) (word-written e))
 
   pub written_back : mag z < 2 ^ 31 → (served_of node s (write_frame node (2 * n) z)).afresh ≡ true →
@@ -201,7 +204,7 @@ module _ (node : ℕ) (s : State) (n : ℕ) (h : n < 104) (z : ℤ) (o : node �
   written_back m = rw (slot-written node s n h z o m) read_back_lem
 
 -- the shown value
-pub shown_read : (node : ℕ) (s : State) → (node ≡ 0 → ⊥) → served_of node s (read_frame node shown_register) ≡ unchanged s (packed (read_reply node s.live.shown)) 0
+pub shown_read : (node : ℕ) (s : State) → (node ≡ 0 → ⊥) → served_of node s (read_frame node shown_register) ≡ unchanged s (packed (read_reply node s.live.shown)) None
 unfolding served_of request_of sent word_in is_mapped
 shown_read node s o = rw (read_asked node shown_register o refl)
 
@@ -223,14 +226,14 @@ teach-read node s k h o v =
 -- what the code makes of a load that is not refused
 abbrev pub started : ℕ → List ℤ → Loaded → Bool → ℕ → Served
 started node t l due register =
-    record { state = state_of t l.state.live; reply = sent due (packed (write_reply node register)); refusal = 0; afresh = true }
+    record { state = state_of t l.state.live; reply = sent due (packed (write_reply node register)); refusal = None; afresh = true }
 
 module _ (node : ℕ) (s : State) (due : Bool) (register : ℕ) (z : ℤ) (t : List ℤ) (l : Loaded) (e : t ≡ written_table s register z) (k : l ≡ loaded_of t) where
   number-of-load : l.refusal ≡ load_refusal (written_table s register z)
   unfolding loaded_of
   number-of-load = rw (k, e) (answer-number (written_table s register z))
 
-  pub refused-write : (l.refusal ≡ 0 → ⊥) → unchanged s (sent due (packed (exception_reply node write_function 3))) 0 ≡ written_of node s due register z
+  pub refused-write : (l.refusal ≡ 0 → ⊥) → unchanged s (sent due (packed (exception_reply node write_function (exception_code Value)))) None ≡ written_of node s due register z
   unfolding written_of
   refused-write n = rw (ne_eqb (load_refusal (written_table s register z)) 0 (λ q. n (number-of-load ∙ q)))
 

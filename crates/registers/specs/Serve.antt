@@ -1,14 +1,17 @@
--- What a frame gives: the reply, the number, and the state after it. Request K2, from "Document 002 decides the map" on.
+-- What a frame gives: the reply, the refusal, and the state after it. Request K2, from "Document 002 decides the map" on.
 -- Main properties (ServeLaws): a slot that was written is read back as it; what is read of a slot is the word in force; a frame that is no write
 -- carried out changes nothing at all, and after a write carried out the panel is the fresh one of the table in force with that slot changed.
-use Rattle.std.specs.Prelude.{Bool, true, false, cond, List, [], ℕ, ◌/◌, eqb, ℤ}
+use Rattle.std.specs.Prelude.{Bool, true, false, cond, Option, None, Some, List, [], ℕ, ◌/◌, eqb, ℤ}
 use Rattle.state.specs.declared.Live.{Live}
 use Rattle.state.specs.declared.State.{State}
 use Rattle.state.specs.State.{state_of, fresh_of}
+use Rattle.modbus.specs.declared.Refusal.{Refusal}
+use Rattle.modbus.specs.declared.Refusal.TheVariants.{BrokenFrame}
+use Rattle.modbus.specs.declared.Exception.TheVariants.{Value}
 use Rattle.modbus.specs.declared.Request.{Request}
 use Rattle.modbus.specs.declared.Request.TheVariants.{Broken, Ignored, Exception, Read, Write}
 use Rattle.modbus.specs.declared.replies.Reply.{Reply}
-use Rattle.modbus.specs.Request.{write_function, shown_register, asked_of}
+use Rattle.modbus.specs.Request.{write_function, shown_register, exception_code, asked_of}
 use Rattle.modbus.specs.Replies.{read_reply, write_reply, exception_reply, packed}
 use Rattle.parameters.specs.Load.{load_refusal}
 use Rattle.parameters.specs.Slots.{word_at, with_word}
@@ -18,7 +21,7 @@ use Rattle.registers.specs.declared.Response.{Response}
 pub record Served : Type 0 where
   pub state : State
   pub reply : Reply
-  pub refusal : ℕ
+  pub refusal : Option Refusal
   pub afresh : Bool
 
 -- the same, of a table and the response beside it
@@ -41,11 +44,11 @@ word_in t shown register = cond (eqb register shown_register) shown (word_at t (
 unfoldable pub sent : Bool → Reply → Reply
 sent due reply = cond due reply (packed [])
 
-abbrev pub unchanged_by : Live → Reply → ℕ → Response
-unchanged_by l reply n = record { live = l; reply = reply; refusal = n; afresh = false }
+abbrev pub unchanged_by : Live → Reply → Option Refusal → Response
+unchanged_by l reply r = record { live = l; reply = reply; refusal = r; afresh = false }
 
-abbrev pub unchanged : State → Reply → ℕ → Served
-unchanged s reply n = record { state = s; reply = reply; refusal = n; afresh = false }
+abbrev pub unchanged : State → Reply → Option Refusal → Served
+unchanged s reply r = record { state = s; reply = reply; refusal = r; afresh = false }
 
 -- ---- a write
 
@@ -56,23 +59,23 @@ written_table s register z = with_word s.table (slot_in register) z
 -- "starts afresh with it"
 abbrev pub carried_out : ℕ → State → Bool → ℕ → ℤ → Served
 carried_out node s due register z =
-    record { state = fresh_of (written_table s register z); reply = sent due (packed (write_reply node register)); refusal = 0; afresh = true }
+    record { state = fresh_of (written_table s register z); reply = sent due (packed (write_reply node register)); refusal = None; afresh = true }
 
 -- "passes it through every load check ..; a failed check changes nothing and is answered by exception 3"
 unfoldable pub written_of : ℕ → State → Bool → ℕ → ℤ → Served
 written_of node s due register z =
     cond (eqb (load_refusal (written_table s register z)) 0)
     (carried_out node s due register z)
-    (unchanged s (sent due (packed (exception_reply node write_function 3))) 0)
+    (unchanged s (sent due (packed (exception_reply node write_function (exception_code Value)))) None)
 
 -- ---- a frame
 
--- 20 "gives no reply and no change"; a frame that is ignored gives neither and no number
+-- 20 "gives no reply and no change"; a frame that is ignored gives neither and no refusal
 unfoldable pub request_of : ℕ → State → Bool → Request → Served
-request_of node s due Broken = unchanged s (packed []) 20
-request_of node s due Ignored = unchanged s (packed []) 0
-request_of node s due (Exception function code) = unchanged s (sent due (packed (exception_reply node function code))) 0
-request_of node s due (Read register) = unchanged s (sent due (packed (read_reply node (word_in s.table s.live.shown register)))) 0
+request_of node s due Broken = unchanged s (packed []) (Some BrokenFrame)
+request_of node s due Ignored = unchanged s (packed []) None
+request_of node s due (Exception function exception) = unchanged s (sent due (packed (exception_reply node function (exception_code exception)))) None
+request_of node s due (Read register) = unchanged s (sent due (packed (read_reply node (word_in s.table s.live.shown register)))) None
 request_of node s due (Write register z) = written_of node s due register z
 
 -- WHAT A FRAME GIVES: `asked_of` has the order of the tests

@@ -6,12 +6,13 @@ ghost use Rattle.std.specs.Prelude.{◌≡◌, [], ◌≤◌};
 ghost use Rattle.state.specs.State.{state_of};
 ghost use Rattle.state.specs.Valid.{Good};
 ghost use Rattle.modbus.specs.Replies.{packed, longest_reply};
+ghost use Rattle.modbus.specs.Request.{frame_number};
 ghost use Rattle.parameters.specs.Valid.{Valid};
 ghost use Rattle.registers.specs.Start.{is_node, started_of};
 ghost use Rattle.registers.specs.Serve.{word_in, sent, unchanged_by, written_of, request_of, served_of, served_by};
 
 use modbus::replies::Reply;
-use modbus::{Demand, Request, replies};
+use modbus::{Demand, Exception, Refusal, Request, replies};
 use panel::Loaded;
 use state::Live;
 
@@ -27,20 +28,30 @@ pub struct Response {
     pub live: Live,
     // The reply's bytes, none where no reply is due.
     pub reply: Reply,
-    // 20 for a broken frame, else 0.
-    pub refusal: u8,
+    // Why the frame was refused, if it was.
+    pub refusal: Option<Refusal>,
     // Whether a write was carried out, so that the panel started afresh.
     pub afresh: bool,
 }
 
+impl Response {
+    // The number of the frame's refusal; 0 where it was not refused.
+    pub fn number(&self) -> u8
+        ensures { result ≡ frame_number self.now.refusal }
+    {
+        match self.refusal {
+            Some(refusal) => u8::from(refusal),
+            None => 0,
+        }
+    }
+}
+
 // Whether a number is a node address.
+#[tactic(auto, unfolding(crate::specs::Start::is_node))]
 fn is_node(node: u32) -> bool
     ensures { result ≡ is_node node }
 {
-    if node < LOWEST_NODE {
-        return false;
-    }
-    node <= HIGHEST_NODE
+    (LOWEST_NODE..=HIGHEST_NODE).contains(&node)
 }
 
 // Starts a panel: 33 for another node address, then the load.
@@ -67,7 +78,7 @@ fn word_in(t: &[i32; 104], shown: i32, register: u16) -> i32
     if register == modbus::SHOWN_REGISTER {
         return shown;
     }
-    let slot = (register / 2) as usize;
+    let slot = usize::from(register / 2);
     if slot < 104 {
         return parameters::word(t, slot);
     }
@@ -75,17 +86,15 @@ fn word_in(t: &[i32; 104], shown: i32, register: u16) -> i32
 }
 
 // A reply where one is due.
+#[tactic(auto, unfolding(crate::specs::Serve::sent))]
 fn send(due: bool, reply: Reply) -> Reply
     ensures { result ≡ sent due reply }
 {
-    if due {
-        return reply;
-    }
-    replies::no_reply()
+    if due { reply } else { replies::no_reply() }
 }
 
 // A frame that changes nothing.
-fn unchanged(l: Live, reply: Reply, refusal: u8) -> Response
+fn unchanged(l: Live, reply: Reply, refusal: Option<Refusal>) -> Response
     ensures { result ≡ unchanged_by l reply refusal }
 {
     Response {
@@ -100,14 +109,17 @@ fn unchanged(l: Live, reply: Reply, refusal: u8) -> Response
 fn write(node: u8, t: &mut [i32; 104], l: Live, due: bool, register: u16, z: i32) -> Response
     ensures { served_by t.new result ≡ written_of node (state_of t.old l) due register z }
 {
-    let slot = (register / 2) as usize;
+    let slot = usize::from(register / 2);
     let next = parameters::changed(*t, slot, z);
     let x = panel::load(&next);
     if x.refusal != 0 {
         return unchanged(
             l,
-            send(due, replies::exception_reply(node, modbus::WRITE, 3)),
-            0,
+            send(
+                due,
+                replies::exception_reply(node, modbus::WRITE, u8::from(Exception::Value)),
+            ),
+            None,
         );
     }
     let s = x.state;
@@ -116,7 +128,7 @@ fn write(node: u8, t: &mut [i32; 104], l: Live, due: bool, register: u16, z: i32
     Response {
         live,
         reply: send(due, replies::write_reply(node, register)),
-        refusal: 0,
+        refusal: None,
         afresh: true,
     }
 }
@@ -129,18 +141,21 @@ fn request(node: u8, t: &mut [i32; 104], l: Live, d: Demand) -> Response
     let due = d.reply;
     let asked = d.request;
     match asked {
-        Request::Broken => unchanged(l, replies::no_reply(), 20),
-        Request::Ignored => unchanged(l, replies::no_reply(), 0),
-        Request::Exception(function, code) => {
+        Request::Broken => unchanged(l, replies::no_reply(), Some(Refusal::BrokenFrame)),
+        Request::Ignored => unchanged(l, replies::no_reply(), None),
+        Request::Exception(function, exception) => {
             unchanged(
                 l,
-                send(due, replies::exception_reply(node, function, code)),
-                0,
+                send(
+                    due,
+                    replies::exception_reply(node, function, u8::from(exception)),
+                ),
+                None,
             )
         }
         Request::Read(register) => {
             let z = word_in(t, l.shown, register);
-            unchanged(l, send(due, replies::read_reply(node, z)), 0)
+            unchanged(l, send(due, replies::read_reply(node, z)), None)
         }
         Request::Write(register, z) => write(node, t, l, due, register, z),
     }

@@ -1,5 +1,5 @@
 -- `bench_frame::with_answer` is safe: a reply has at most the 9 bytes of its array.
-use Rattle.std.proofs.Common.{◌≡◌, length, sym, arith, length-take-le, rules}
+use Rattle.std.proofs.Common.{◌≡◌, length, arith, rules}
 use Rattle.bench_frame.proofs.with_answer.Goals as goal
 
 pub slice_bounds-bytes-end : goal.slice_bounds-bytes-end

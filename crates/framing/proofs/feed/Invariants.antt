@@ -1,11 +1,8 @@
 -- `framing::feed` meets its contract. The invariant: from here on the rest gives what the whole gives. The measure is what is left of the bytes.
-use Prim.Native.Nat.{◌-◌, ◌≤◌}
-use mathlib.Core.Path.{◌≡◌, refl, sym, ◌∙◌}
-use native.Mathlib.Omega.{arith}
-use borrow.Author.Rules.{rules}
-use lib.ListN.{length, drop, drop_of_length-le}
+use Prim.Native.Nat.{◌-◌}
+use mathlib.Core.Path.{◌≡◌}
+use lib.ListN.{length, drop}
 use Rattle.framing.specs.Collector.{fed_to}
-use Rattle.framing.proofs.PieceLaws.{fed-next}
 use Rattle.framing.proofs.feed.Given as goal
 
 abbrev pub invariant-loop-i : goal.invariant-loop-i

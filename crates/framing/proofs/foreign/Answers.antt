@@ -1,7 +1,6 @@
 -- `framing::foreign` meets its contract: its tests are the definition's.
 use borrow.Author.Tests.{eq-eqb, ne_eqb}
 use Rattle.framing.specs.Ends.{is_foreign}
-use borrow.Author.Rules.{rules}
 use Rattle.framing.proofs.foreign.Goals as goal
 
 pub returns-then-address-ne0 : goal.returns-then-address-ne0

@@ -2,7 +2,6 @@
 use native.Mathlib.Omega.{arith}
 use borrow.Author.Tests.{lt-ltb, le-ltb}
 use Rattle.framing.specs.Collector.{pushed}
-use borrow.Author.Rules.{rules}
 use Rattle.framing.proofs.push.Goals as goal
 
 pub judge-requires : goal.judge-requires

@@ -3,7 +3,6 @@ use native.Mathlib.Omega.{arith}
 use borrow.Author.Tests.{eq-eqb, ne_eqb, lt-ltb, le-ltb, le-leb, lt-leb}
 use Rattle.framing.specs.Ends.{is_reply_long}
 use Rattle.framing.proofs.EndLaws.{short-no-reply}
-use borrow.Author.Rules.{rules}
 use mathlib.Core.Path.{sym}
 use Rattle.framing.proofs.reply_long.Goals as goal
 
@@ -11,11 +10,11 @@ pub returns-then-f-lt5 : goal.returns-then-f-lt5
 returns-then-f-lt5 c = sym (short-no-reply _ c.if-f-lt5.true)
 
 pub overflow_add-result : goal.overflow_add-result
-overflow_add-result c = omega (arith, c.wide.ensures, c.shared_slice_known-then-f-gt5-1.given 2)
+overflow_add-result c = omega (arith, c.from.ensures, c.shared_slice_known-then-f-gt5-1.given 2)
 
 pub returns-then-f-gt5 : goal.returns-then-f-gt5
 unfolding is_reply_long
-returns-then-f-gt5 c = rw (eq-eqb _ _ c.if-function-eq-READ.true, lt-ltb _ _ c.if-f-gt5.true, c.wide.ensures)
+returns-then-f-gt5 c = rw (eq-eqb _ _ c.if-function-eq-READ.true, lt-ltb _ _ c.if-f-gt5.true, c.from.ensures)
 
 pub returns-else-f-gt5 : goal.returns-else-f-gt5
 unfolding is_reply_long

@@ -1,7 +1,6 @@
 -- `framing::silence` meets its contract: its test is the definition's.
 use borrow.Author.Tests.{eq-eqb, ne_eqb}
 use Rattle.framing.specs.Collector.{quieted}
-use borrow.Author.Rules.{rules}
 use Rattle.framing.proofs.silence.Goals as goal
 
 pub returns-then-still_held-eq0 : goal.returns-then-still_held-eq0

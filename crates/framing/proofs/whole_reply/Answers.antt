@@ -1,5 +1,4 @@
 -- `framing::whole_reply` meets its contract: its tests are the definition's.
-use borrow.Author.Rules.{rules}
 use borrow.Author.Tests.{le-leb, lt-leb}
 use Rattle.framing.specs.Ends.{is_reply}
 use Rattle.framing.proofs.whole_reply.Goals as goal

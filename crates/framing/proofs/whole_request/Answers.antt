@@ -1,6 +1,5 @@
 -- `framing::whole_request` meets its contract: its tests are the definition's.
 use Rattle.framing.specs.Ends.{is_request}
-use borrow.Author.Rules.{rules}
 use Rattle.framing.proofs.whole_request.Goals as goal
 
 pub returns-then-not-unknown : goal.returns-then-not-unknown

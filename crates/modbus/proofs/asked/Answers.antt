@@ -5,7 +5,6 @@ use native.Mathlib.Omega.{arith}
 use borrow.Author.Tests.{eq-eqb, ne_eqb}
 use Rattle.modbus.specs.Request.{is_broken, asked_of}
 use Rattle.modbus.proofs.WholeLaws.{Whole, whole}
-use borrow.Author.Rules.{rules}
 use Rattle.modbus.proofs.asked.Goals as goal
 
 pub returns-then-broken : goal.returns-then-broken

@@ -1,7 +1,6 @@
 -- `modbus::broken` meets its contract: the tests are the definition's, in its order.
 use borrow.Author.Tests.{lt-ltb, le-ltb}
 use Rattle.modbus.specs.Request.{is_broken}
-use borrow.Author.Rules.{rules}
 use Rattle.modbus.proofs.broken.Goals as goal
 
 pub returns-then-f-lt4 : goal.returns-then-f-lt4

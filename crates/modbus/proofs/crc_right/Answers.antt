@@ -1,12 +1,10 @@
 -- `modbus::crc_right` meets its contract: fewer than two bytes hold no CRC, and both sides of its last test are those of the definition.
 use Prim.Native.Nat.{◌+◌, ◌-◌}
-use mathlib.Core.Path.{◌≡◌, sym}
+use mathlib.Core.Path.{◌≡◌}
 use native.Mathlib.Omega.{arith}
 use borrow.Author.Tests.{le-leb, lt-leb}
 use lib.ListN.{length}
-use lib.Seq.{length-take-le}
 use Rattle.modbus.specs.Request.{crc_right}
-use borrow.Author.Rules.{rules}
 use Rattle.modbus.proofs.crc_right.Goals as goal
 
 pub returns-then-f-lt2 : goal.returns-then-f-lt2

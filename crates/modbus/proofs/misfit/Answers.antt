@@ -1,16 +1,11 @@
 -- `modbus::misfit` meets its contract: each way through its tests is a case of the definition.
-use native.Mathlib.Omega.{arith}
 use borrow.Author.Tests.{eq-eqb, ne_eqb, lt-ltb, le-ltb}
 use Rattle.modbus.specs.Request.{is_misfit}
-use borrow.Author.Rules.{rules}
 use Rattle.modbus.proofs.misfit.Goals as goal
 
 pub returns-then-function-eq-READ : goal.returns-then-function-eq-READ
 unfolding is_misfit
 returns-then-function-eq-READ c = rw (eq-eqb _ _ c.if-function-eq-READ.true)
-
-pub overflow_add-result : goal.overflow_add-result
-overflow_add-result c = omega (arith, c.wide.ensures, c.shared_slice_known-else-f-lt9-1.given 6)
 
 pub returns-then-f-lt9 : goal.returns-then-f-lt9
 unfolding is_misfit
@@ -18,7 +13,7 @@ returns-then-f-lt9 c = rw (ne_eqb _ _ c.if-function-eq-READ.false, eq-eqb _ _ c.
 
 pub returns-else-f-lt9 : goal.returns-else-f-lt9
 unfolding is_misfit
-returns-else-f-lt9 c = rw (ne_eqb _ _ c.if-function-eq-READ.false, eq-eqb _ _ c.if-function-eq-WRITE.true, le-ltb _ _ c.if-f-lt9.false, c.wide.ensures)
+returns-else-f-lt9 c = rw (ne_eqb _ _ c.if-function-eq-READ.false, eq-eqb _ _ c.if-function-eq-WRITE.true, le-ltb _ _ c.if-f-lt9.false, c.from.ensures)
 
 pub returns : goal.returns
 unfolding is_misfit

@@ -4,7 +4,6 @@ use native.Mathlib.Omega.{arith}
 use borrow.Author.Tests.{eq-eqb, ne_eqb}
 use lib.ListN.{length, get_or-eq_default}
 use Rattle.modbus.specs.Request.{is_unknown}
-use borrow.Author.Rules.{rules}
 use Rattle.modbus.proofs.unknown.Goals as goal
 
 pub returns-then-f-lt2 : goal.returns-then-f-lt2

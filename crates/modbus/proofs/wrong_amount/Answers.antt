@@ -1,7 +1,6 @@
 -- `modbus::wrong_amount` meets its contract: the quantity is tested first, and the byte count of a write alone.
 use borrow.Author.Tests.{eq-eqb, ne_eqb}
 use Rattle.modbus.specs.Request.{wrong_amount}
-use borrow.Author.Rules.{rules}
 use Rattle.modbus.proofs.wrong_amount.Goals as goal
 
 pub returns-then-number_of-ne2 : goal.returns-then-number_of-ne2

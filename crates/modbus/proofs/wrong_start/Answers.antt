@@ -1,7 +1,6 @@
 -- `modbus::wrong_start` meets its contract: the map is tested first, and the shown value's register for a write alone.
 use borrow.Author.Tests.{eq-eqb, ne_eqb}
 use Rattle.modbus.specs.Request.{wrong_start}
-use borrow.Author.Rules.{rules}
 use Rattle.modbus.proofs.wrong_start.Goals as goal
 
 pub returns-then-not-mapped : goal.returns-then-not-mapped

@@ -17,7 +17,7 @@ returns-in-Ignored c = rw (c.unchanged-in-Ignored.ensures, c.no_reply-in-Ignored
 pub returns-in-Exception : goal.returns-in-Exception
 unfolding request_of
 returns-in-Exception c = let e = c in
-    rw (c.unchanged-in-Exception.ensures, c.send.ensures, e.exception_reply.ensures, e.in-Exception.is)
+    rw (c.unchanged-in-Exception.ensures, c.send.ensures, e.exception_reply.ensures, e.from.ensures, e.in-Exception.is)
 
 pub returns-in-Read : goal.returns-in-Read
 unfolding request_of

@@ -18,9 +18,9 @@ returns-then-register-eq-SHOWN_REGISTER c = rw (to_z-of_z c.ranges.shown, eq-eqb
 pub returns-then-slot-lt104 : goal.returns-then-slot-lt104
 unfolding word_in
 returns-then-slot-lt104 c = let z : bk w32 c.word.result ≡ c.word.result = search rules in
-    rw (z, ne_eqb _ _ c.if-register-eq-SHOWN_REGISTER.false) c.word.ensures
+    rw (z, ne_eqb _ _ c.if-register-eq-SHOWN_REGISTER.false) (rw c.from-slot.ensures at c.word.ensures)
 
 pub returns : goal.returns
 unfolding word_in
 returns c = let start = c in
-    rw (ne_eqb _ _ c.if-register-eq-SHOWN_REGISTER.false) (sym (get_or-eq_default start.args.t.now (pos 0) (omega (arith, start.requires.long))))
+    rw (ne_eqb _ _ c.if-register-eq-SHOWN_REGISTER.false) (sym (get_or-eq_default start.args.t.now (pos 0) (omega (arith, start.requires.long, c.from-slot.ensures))))

@@ -12,11 +12,11 @@ returns-then-x-ne0 c =
     let a = x.args in
     x.changed-next.result ≡ with_word a.t.now (slot_in a.register) a.z =
     let x = c in
-    rw (to_z-of_z x.ranges.z) at x.changed-next.ensures in
+    rw (to_z-of_z x.ranges.z, x.from-slot.ensures) at x.changed-next.ensures in
     let e = c in
     let test = e in
     let x = test in
-    rw (c.unchanged.ensures, c.send.ensures, e.exception_reply.ensures)
+    rw (c.unchanged.ensures, c.send.ensures, e.exception_reply.ensures, e.from.ensures)
     (refused-write _ _ _ _ _ _ x.load-x.result (changed-table) x.load-x.ensures.is test.if-x-ne0.true)
 
 pub returns : goal.returns
@@ -25,7 +25,7 @@ returns c =
     let a = x.args in
     x.changed-next.result ≡ with_word a.t.now (slot_in a.register) a.z =
     let x = c in
-    rw (to_z-of_z x.ranges.z) at x.changed-next.ensures in
+    rw (to_z-of_z x.ranges.z, x.from-slot.ensures) at x.changed-next.ensures in
     let w = c in
     let test = w in
     let x = test in

@@ -1,28 +1,22 @@
--- `modbus::checksum::byte_step` meets its contract. The invariant: k bits of x are still to be taken. The measure is k.
-use Prim.Native.Nat.{◌≤◌}
-use mathlib.Core.Path.{◌≡◌, refl, sym, ◌∙◌}
-use native.Mathlib.Omega.{arith}
-use borrow.Author.Rules.{rules}
+-- `modbus::checksum::byte_step` meets its contract: the loop begins with all eight bits, each turn takes one, and none is left at the end.
+use Rattle.std.proofs.Common.{◌≡◌, ◌+◌, ◌-◌, sym, ◌∙◌, arith}
 use Rattle.modbus.specs.Crc.{byte_step, bit_steps}
 use Rattle.modbus.proofs.CrcLaws.{steps_next}
 use Rattle.modbus.proofs.checksum.byte_step.Goals as goal
 
-pub loop-k-init : goal.loop-k-init
+pub loop-init : goal.loop-init
 unfolding byte_step
-loop-k-init c = (omega arith, refl)
+loop-init c = rw c.from.ensures
 
-pub overflow_sub-k : goal.overflow_sub-k
-overflow_sub-k c = omega arith
-
-pub loop-k-smaller : goal.loop-k-smaller
-loop-k-smaller c = omega arith
-
-pub loop-k-preserved : goal.loop-k-preserved
-loop-k-preserved c = let l = c.loop-k in
-    (omega arith, l.invariant.1 ∙ rw c.bit_step-x.ensures (steps_next l.k l.x (omega arith)))
+pub loop-preserved : goal.loop-preserved
+loop-preserved c =
+    let l = c.loop in
+    let one : 8 - l.counter - 1 ≡ 8 - (l.counter + 1) = omega arith in
+    l.invariant ∙ rw (c.bit_step-x.ensures, ← one) (steps_next (8 - l.counter) l.x (omega arith))
 
 pub returns : goal.returns
 unfolding bit_steps
-returns c = let l = c.loop-k in
-    let z : l.k ≡ 0 = omega arith in
-    sym (rw z at l.invariant.1)
+returns c =
+    let l = c.loop in
+    let z : 8 - l.counter ≡ 0 = omega arith in
+    sym (rw z at l.invariant)

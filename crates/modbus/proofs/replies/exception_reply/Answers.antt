@@ -1,9 +1,7 @@
--- `modbus::replies::exception_reply` meets its contract: the bytes of the definition, and the two of its CRC.
-use Rattle.modbus.specs.Crc.{sealed}
-use Rattle.modbus.specs.Replies.{exception_reply, packed}
-use borrow.Author.Rules.{rules}
+-- `modbus::replies::exception_reply` meets its contract: the body is the definition's.
+use Rattle.modbus.specs.Replies.{exception_reply}
 use Rattle.modbus.proofs.replies.exception_reply.Goals as goal
 
 pub returns : goal.returns
-unfolding packed exception_reply sealed
-returns c = rw (c.high_byte-high.ensures, c.low_byte-low.ensures, c.crc-c.ensures)
+unfolding exception_reply
+returns c = c.closed.ensures

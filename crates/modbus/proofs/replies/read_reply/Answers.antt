@@ -1,26 +1,17 @@
--- `modbus::replies::read_reply` meets its contract: the bytes of the definition, and the two of its CRC.
-use mir.Facts.{to_z-of_z}
-use Rattle.modbus.specs.Crc.{sealed}
-use Rattle.modbus.specs.Replies.{read_reply, packed}
-use borrow.Author.Rules.{rules}
+-- `modbus::replies::read_reply` meets its contract: the bytes of the word, its low half first, are those of the definition.
+use Rattle.std.proofs.Common.{◌≡◌, ◌/◌, ◌%◌, ◌∙◌, arith, to_z-of_z}
+use Rattle.modbus.specs.Replies.{read_reply}
+use Rattle.integers.specs.TwosComplement.{bits_of}
+use Rattle.integers.proofs.TwosComplementLaws.{bits-lt}
+use Rattle.modbus.proofs.WordLaws.{bits-read}
 use Rattle.modbus.proofs.replies.read_reply.Goals as goal
 
 pub returns : goal.returns
-unfolding packed read_reply sealed
-returns c = let r = c in
-    let b3 = r in
-    let b2 = b3 in
-    let b1 = b2 in
-    let b0 = b1 in
-    let w = b0 in
-    rw (
-      c.high_byte-high.ensures,
-      c.low_byte-low.ensures,
-      r.crc-c.ensures,
-      b3.low_byte-b3.ensures,
-      b2.high_byte-b2.ensures,
-      b1.low_byte-b1.ensures,
-      b0.high_byte-b0.ensures,
-      w.bits-w.ensures,
-      to_z-of_z w.ranges.z,
-    )
+unfolding read_reply
+returns c =
+    let w = bits_of c.args.z in
+    let h = bits-lt c.args.z c.ranges.z.sfits in
+    let b0 : w / 256 % 256 ≡ w % 65536 / 256 = omega arith in
+    let b1 : w % 65536 % 256 ≡ w % 256 = omega arith in
+    let b2 : w / 16777216 % 256 ≡ w / 65536 / 256 = omega arith in
+    c.closed.ensures ∙ rw (c.to_be_bytes.ensures, to_z-of_z c.ranges.z, bits-read c.args.z, b0, b1, b2)

@@ -1,9 +1,0 @@
--- `bench_frame::with_bytes` is safe and ends. The measure is what is left of the bytes.
-use Rattle.std.proofs.Common.{◌-◌, length, rules}
-use Rattle.bench_frame.proofs.with_bytes.Given as goal
-
-abbrev pub invariant-loop-i : goal.invariant-loop-i
-invariant-loop-i l = Unit {0}
-
-abbrev pub decreases-loop-i : goal.decreases-loop-i
-decreases-loop-i l = length l.bytes - l.i
