@@ -11,7 +11,7 @@ ghost use Rattle.state.specs.State.{state_of, halves_in};
 ghost use Rattle.state.specs.Valid.{Good};
 ghost use Rattle.inputs.specs.Commands.{acted, left_by, reset_refusal, reset_of, locks_cleared, extremes_at, extremes_cleared, teach_refusal, teach_of, refusal_of, carried_out, marks_after, command_of};
 ghost use Rattle.inputs.specs.Levels.{high_at, on_rise, acts_on, edge_in, first_note, input_acts, commands_of, marks_left};
-ghost use Rattle.inputs.specs.Freeze.{lasts, freezes, frozen};
+ghost use Rattle.inputs.specs.Freeze.{lasts, freezes, frozen, shown_by};
 
 use settings::{Action, Config};
 use state::{Extremes, Live, Outcome};
@@ -237,13 +237,11 @@ pub fn act(t: &mut [i32; 104], l: Live, levels: u8) -> Outcome
         note: 0,
         halves: 0,
     };
-    let mut i: usize = 0;
-    while i < 3 {
+    for i in 0..3 {
         let n = x.live;
         if edge(t, n.levels, levels, i) {
             x = input(t, x, i);
         }
-        i += 1;
     }
     x
 }
@@ -275,11 +273,15 @@ fn holds(t: &[i32; 104], levels: u8, i: usize) -> bool
 pub fn is_frozen(t: &[i32; 104], levels: u8) -> bool
     ensures { result ≡ frozen t.now levels }
 {
-    if holds(t, levels, 0) {
-        return true;
+    holds(t, levels, 0) || holds(t, levels, 1) || holds(t, levels, 2)
+}
+
+// The shown value after an event: the result, or held.
+pub fn shown_after(held: bool, shown: i32, res: i32) -> i32
+    ensures { result ≡ shown_by held shown res }
+{
+    if held {
+        return shown;
     }
-    if holds(t, levels, 1) {
-        return true;
-    }
-    holds(t, levels, 2)
+    res
 }

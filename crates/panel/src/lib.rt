@@ -12,7 +12,7 @@ ghost use Rattle.parameters.specs.Valid.{Valid};
 ghost use Rattle.reading.specs.Reading.{no_halves};
 ghost use Rattle.switching.specs.Switching.{all_ticked};
 ghost use Rattle.panel.specs.Load.{loaded_of};
-ghost use Rattle.panel.specs.Step.{answer_of, answer_by, outputs_in, switches_after, shown_after, settled_of, on_telegram, on_levels, step_of};
+ghost use Rattle.panel.specs.Step.{answer_of, answer_by, outputs_in, switches_after, settled_of, on_telegram, on_levels, step_of};
 ghost use Rattle.panel.specs.StepWay.{answer_after};
 ghost use Rattle.panel.specs.Telegrams.{diagnosed_of, built_by};
 
@@ -79,16 +79,6 @@ fn switches_after(seen: bool, t: &[i32; 104], res: i32, switches: [Switch; 4]) -
         return switches;
     }
     switching::switch_all(settings::preselections(t), res, switches)
-}
-
-// The shown value after an event: the result, or held.
-fn shown_after(t: &[i32; 104], levels: u8, shown: i32, res: i32) -> i32
-    ensures { result ≡ shown_after t.now levels shown res }
-{
-    if inputs::is_frozen(t, levels) {
-        return shown;
-    }
-    res
 }
 
 // What an event does before switching and display.
@@ -188,7 +178,8 @@ fn settle(t: &[i32; 104], l: Live) -> Live
     let reading = l.reading;
     let was = l.switches;
     let switches = switches_after(l.seen, t, reading.result, was);
-    let shown = shown_after(t, l.levels, l.shown, reading.result);
+    let held = inputs::is_frozen(t, l.levels);
+    let shown = inputs::shown_after(held, l.shown, reading.result);
     state::settled(l, switches, shown)
 }
 

@@ -32,11 +32,9 @@ fn run_on(a: Answer, log: &[u64]) -> Answer
     ensures valid { Good result.state }
 {
     let mut last = a;
-    let mut i: usize = 0;
-    while i < log.len() {
+    for w in log {
         let s = last.state;
-        last = panel::step(s, event_of(log[i]));
-        i += 1;
+        last = panel::step(s, event_of(*w));
     }
     last
 }
