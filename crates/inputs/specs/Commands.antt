@@ -1,6 +1,6 @@
 -- The commands: what an action does to a state, and when it is refused; a refused one changes nothing.
 -- Paper 01, "Events and inputs", second paragraph, and "Where each check sits", command. Assumes nothing.
-use Rattle.std.specs.Prelude.{List, Bool, cond, not, ◌&&◌, ◌||◌, ℕ, eqb, ltb, ℤ, pos}
+use Rattle.std.specs.Prelude.{Option, List, Bool, cond, not, ◌&&◌, ◌||◌, ℕ, eqb, ltb, ℤ, pos}
 use Rattle.driverecord.specs.DriveRecord.{emptied}
 use Rattle.integers.specs.Limit.{Z}
 use Rattle.parameters.specs.Slots.{with_offset, with_preselection}
@@ -43,7 +43,7 @@ unfoldable pub clear_locks_of : State → State
 clear_locks_of s = state_of s.table (locks_cleared s.live)
 
 -- 4, clear least and greatest: both at the present result, or none under an error or before the first telegram
-unfoldable pub extremes_at : Bool → ℕ → ℤ → Extremes
+unfoldable pub extremes_at : Bool → ℕ → ℤ → Option Extremes
 extremes_at seen error result = cond (seen && eqb error 0) (both_at result) no_extremes
 
 -- K6: and the record's lowest and highest empty; the end of the event sets both to present where the line is driven (`cleared-there` of driverecord)

@@ -66,21 +66,16 @@ fn clear_locks(l: Live) -> Live
 }
 
 // Least and greatest both at a result, or none before the first telegram or under an error.
-fn extremes_at(seen: bool, error: u32, res: i32) -> Extremes
+fn extremes_at(seen: bool, error: u32, res: i32) -> Option<Extremes>
     ensures { result ≡ extremes_at seen error res }
 {
     if seen & (error == 0) {
-        return Extremes {
-            any: true,
+        return Some(Extremes {
             least: res,
             greatest: res,
-        };
+        });
     }
-    Extremes {
-        any: false,
-        least: 0,
-        greatest: 0,
-    }
+    None
 }
 
 // Clear least and greatest: both at the present result, or none; and the record of the drive empty.

@@ -17,8 +17,6 @@ use switching::Switch;
 // The least and the greatest error-free result.
 #[derive(Clone, Copy)]
 pub struct Extremes {
-    // Whether there is one.
-    pub any: bool,
     pub least: i32,
     pub greatest: i32,
 }
@@ -36,7 +34,8 @@ pub struct Live {
     pub reading: Reading,
     // The shown value.
     pub shown: i32,
-    pub extremes: Extremes,
+    // Least and greatest, once there is an error-free result.
+    pub extremes: Option<Extremes>,
     // Present, lowest and highest drive.
     pub driven: DriveRecord,
     // The four preselections' conditions, pulses and locks.
@@ -83,11 +82,7 @@ pub fn fresh(table: [i32; 104]) -> State
                 drive: analog::Drive::Off,
             },
             shown: 0,
-            extremes: Extremes {
-                any: false,
-                least: 0,
-                greatest: 0,
-            },
+            extremes: None,
             driven: driverecord::fresh(),
             switches: [off; 4],
         },
@@ -123,23 +118,21 @@ fn higher(a: i32, b: i32) -> i32
 }
 
 // Least and greatest with one more reading.
-fn widened(x: Extremes, r: Reading) -> Extremes
+fn widened(x: Option<Extremes>, r: Reading) -> Option<Extremes>
     ensures { result ≡ widened_of x r }
 {
     if error_in(r) != 0 {
         return x;
     }
-    if x.any {
-        return Extremes {
-            any: true,
-            least: lower(r.result, x.least),
-            greatest: higher(r.result, x.greatest),
-        };
-    }
-    Extremes {
-        any: true,
-        least: r.result,
-        greatest: r.result,
+    match x {
+        None => Some(Extremes {
+            least: r.result,
+            greatest: r.result,
+        }),
+        Some(e) => Some(Extremes {
+            least: lower(r.result, e.least),
+            greatest: higher(r.result, e.greatest),
+        }),
     }
 }
 
@@ -165,7 +158,7 @@ pub fn received(l: Live, b: Basis, r: Reading) -> Live
 }
 
 // Another reading, with least and greatest.
-pub fn with_reading(l: Live, reading: Reading, extremes: Extremes) -> Live
+pub fn with_reading(l: Live, reading: Reading, extremes: Option<Extremes>) -> Live
     ensures { result ≡ set_reading l reading extremes }
 {
     let mut n = l;
