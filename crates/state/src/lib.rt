@@ -9,6 +9,7 @@ ghost use Rattle.state.specs.State.{fresh_of, set_levels, set_basis, set_reading
 ghost use Rattle.driverecord.specs.DriveRecord.{present_of};
 ghost use Rattle.driverecord.specs.Numbers.{Number, Numbers};
 ghost use Rattle.state.specs.Extremes.{error_in, widened_of};
+ghost use Rattle.state.specs.Refusal.{refusal_number, note_number};
 
 use driverecord::DriveRecord;
 use reading::{Basis, Reading};
@@ -49,12 +50,27 @@ pub struct State {
     pub live: Live,
 }
 
+// Why an event, a command or a burst is refused.
+#[derive(Clone, Copy)]
+pub enum Refusal {
+    // Levels above 7.
+    LevelsAbove,
+    // A telegram with a bit above N.
+    BitAbove,
+    // A reset whose offset would be out of range.
+    OffsetOutOfRange,
+    // A reset or a teach with no result to take.
+    NothingToTake,
+    // A burst of more than 1,024 telegrams.
+    BurstTooLong,
+}
+
 // What an event or a command leaves beside the table.
 #[derive(Clone, Copy)]
 pub struct Outcome {
     pub live: Live,
-    // The refusal of the event or of its lowest refused input, 0 for none.
-    pub note: u8,
+    // The refusal of the event or of its lowest refused input.
+    pub note: Option<Refusal>,
     // Where a half decided in the result that it worked out: 1 for scaling, 2 for linearization, 4 for the analog code, added.
     pub halves: u8,
 }
@@ -95,6 +111,29 @@ pub fn error_in(r: Reading) -> u32
 {
     let e = r.error;
     measurement::error_number(e)
+}
+
+// The number of a refusal.
+fn refusal_number(r: Refusal) -> u8
+    ensures { result ≡ refusal_number r }
+{
+    match r {
+        Refusal::LevelsAbove => 10,
+        Refusal::BitAbove => 11,
+        Refusal::OffsetOutOfRange => 12,
+        Refusal::NothingToTake => 13,
+        Refusal::BurstTooLong => 21,
+    }
+}
+
+// The number of a note, 0 for none.
+pub fn note_number(note: Option<Refusal>) -> u8
+    ensures { result ≡ note_number note }
+{
+    match note {
+        None => 0,
+        Some(r) => refusal_number(r),
+    }
 }
 
 // The lower of two results.

@@ -5,6 +5,7 @@ use native.Mathlib.Numerals.{add-one}
 use Rattle.inputs.specs.Commands.{acted}
 use Rattle.inputs.specs.Levels.{edge_at, input_of, marks_at}
 use Rattle.inputs.proofs.CommandLaws.{inputs_of, all-inputs, marks_up_to, all-marks, good-inputs, good-commands}
+use Rattle.state.specs.Refusal.{no_note}
 use Rattle.state.specs.State.{state_of}
 use Rattle.inputs.proofs.act.Goals.{then-edge, else-edge}
 use Rattle.inputs.proofs.act.Goals as goal
@@ -20,7 +21,7 @@ pub input-x-requires : goal.input-x-requires
 input-x-requires c = let turn = c in
     let l = turn.loop-i in
     let s = turn in
-    let g = rw (← l.invariant.0) at (good-inputs s.args.levels l.i (acted (state_of s.args.t.now s.args.l) 0) s.requires) in
+    let g = rw (← l.invariant.0) at (good-inputs s.args.levels l.i (acted (state_of s.args.t.now s.args.l) no_note) s.requires) in
     (g.table, omega arith)
 
 pub loop-i-preserved : goal.loop-i-preserved
