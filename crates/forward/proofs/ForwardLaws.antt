@@ -34,6 +34,7 @@ use Rattle.settings.specs.AlikeLaws.{layout-alike, direction-alike, loop-alike, 
 use Rattle.settings.specs.Settings.{scaling_of, points_of}
 use Rattle.settings.specs.SettingsLaws.{points-ordered, point-y}
 use Rattle.state.specs.declared.State.{State}
+use Rattle.state.specs.Refusal.{no_note}
 use Rattle.state.specs.State.{fresh_of}
 use Rattle.state.specs.Valid.{Good}
 use Rattle.state.proofs.ValidLaws.{good-fresh}
@@ -184,7 +185,7 @@ module _ {t : List ℤ} (v : Valid t) (none : slot.round_loop t ≡ 0) (es : Lis
     last-reading : ((last_answer t es).result ≡ (reading_at s (book_of t es).telegram).result) × ((last_answer t es).error ≡ (reading_at s (book_of t es).telegram).error)
     unfolding answer_of
     last-reading =
-        let o = last-own (unasked (fresh_of t)) es (answer-own (fresh_of t) 0 no_halves) in
+        let o = last-own (unasked (fresh_of t)) es (answer-own (fresh_of t) no_note no_halves) in
         rw (own-result o, own-error o, last-state (unasked (fresh_of t)) es, end-reading) (refl, refl)
 
 -- both are read under the table in force at the end of the first

@@ -1,18 +1,23 @@
 -- Every state that a command leaves is good: its table is valid, its result is from −Z to Z, and no float is a NaN.
 -- A reset stores a start up to Z, a teach stores the result, and nothing else writes the table. Paper 01, "Events and inputs".
 -- First the cases of a command and an input, as laws for any claim about the state they leave; last, the inputs one by one.
-use Rattle.std.specs.Prelude.{◌≡◌, refl, Bool, true, false, cond, not, ◌&&◌, ◌||◌, List, ℕ, zero, suc, ◌≤◌, ◌<◌, T, eqb, ltb, ℤ}
-use Rattle.std.proofs.Common.{arith, eqb-true, ltb-false}
+use Rattle.std.specs.Prelude.{Option, Some, None, is_none, ◌≡◌, refl, Bool, true, false, cond, not, ◌&&◌, ◌||◌, List, ℕ, zero, suc, ◌≤◌, ◌<◌, T, eqb, ltb, ℤ}
+use Rattle.std.proofs.Common.{arith, ltb-false, sym}
+use Rattle.std.proofs.lemmas.Option.{none-some}
 use Rattle.driverecord.proofs.NumberLaws.{empty-numbers}
 use Rattle.integers.specs.ChoiceLaws.{by-test, is_true, is_false}
 use Rattle.integers.specs.Limit.{Z}
 use Rattle.parameters.proofs.StoreLaws.{valid-offset, valid-preselection}
 use Rattle.settings.specs.declared.Action.{Action}
-use Rattle.settings.specs.declared.Action.TheVariants.{None, Reset, Freeze, ClearLocks, ClearExtremes, Teach}
+use Rattle.settings.specs.declared.Action.TheVariants as Action
+use Rattle.settings.specs.declared.Action.TheVariants.{Reset, Freeze, ClearLocks, ClearExtremes, Teach}
 use Rattle.settings.specs.InputLaws.{aimed}
 use Rattle.settings.specs.Settings.{is_reset, is_teach, Aimed, input_at}
 use Rattle.reading.specs.Reading.{no_halves}
+use Rattle.state.specs.declared.Refusal.{Refusal}
+use Rattle.state.specs.declared.Refusal.TheVariants.{OffsetOutOfRange, NothingToTake}
 use Rattle.state.specs.declared.State.{State}
+use Rattle.state.specs.Refusal.{no_note}
 use Rattle.state.specs.State.{error_of, halves_in}
 use Rattle.state.specs.Valid.{Good}
 use Rattle.state.proofs.ValidLaws.{good-reread}
@@ -21,17 +26,22 @@ use Rattle.inputs.specs.Levels.{edge_at, input_of, commands_of, marks_at, marks_
 
 -- ---- the cases
 
+-- nothing is refused where there is no note
+pub unrefused : (n : Option Refusal) → T (is_none n) → n ≡ no_note
+unrefused None t = refl
+unrefused (Some r) t = absurd t
+
 -- a reset that is not refused starts from a number up to Z
-pub reset-fits : (seen : Bool) (error start : ℕ) → reset_refusal seen error start ≡ 0 → start ≤ Z
+pub reset-fits : (seen : Bool) (error start : ℕ) → reset_refusal seen error start ≡ no_note → start ≤ Z
 unfolding reset_refusal
 reset-fits seen error start =
-    by-test (not seen || eqb error 3) 13 _ Q (λ _ e. absurd (omega arith))
-    (λ _. by-test (ltb Z start) 12 0 Q (λ _ e. absurd (omega arith)) (λ n _. ltb-false Z start (is_false (ltb Z start) n)))
+    by-test (not seen || eqb error 3) (Some NothingToTake) _ Q (λ _ e. absurd (none-some NothingToTake (sym e)))
+    (λ _. by-test (ltb Z start) (Some OffsetOutOfRange) no_note Q (λ _ e. absurd (none-some OffsetOutOfRange (sym e))) (λ n _. ltb-false Z start (is_false (ltb Z start) n)))
   where
-    Q : ℕ → Type 0
-    Q n = n ≡ 0 → start ≤ Z
+    Q : Option Refusal → Type 0
+    Q n = n ≡ no_note → start ≤ Z
 
-pub reset-allowed : (s : State) → refusal_of Reset s ≡ 0 → s.live.basis.start ≤ Z
+pub reset-allowed : (s : State) → refusal_of Reset s ≡ no_note → s.live.basis.start ≤ Z
 unfolding refusal_of
 reset-allowed s e = reset-fits s.live.seen (error_of s) s.live.basis.start e
 
@@ -46,18 +56,18 @@ pub by-command : (a : Action) (s : State) → Aimed a → (Q : State → Type 0)
     (T (is_reset a) → s.live.basis.start ≤ Z → Q (reset_of s)) →
     Q (clear_locks_of s) →
     Q (clear_extremes_of s) →
-    ((k : ℕ) → k < 4 → T (is_teach a) → T (eqb (refusal_of a s) 0) → Q (teach_of s k)) →
+    ((k : ℕ) → k < 4 → T (is_teach a) → T (is_none (refusal_of a s)) → Q (teach_of s k)) →
     Q (command_of a s).state
 unfolding command_of carried_out refusal_of
-by-command None s m Q same reset locks extremes teach = same
+by-command Action.None s m Q same reset locks extremes teach = same
 by-command Freeze s m Q same reset locks extremes teach = same
 by-command ClearLocks s m Q same reset locks extremes teach = locks
 by-command ClearExtremes s m Q same reset locks extremes teach = extremes
 by-command Reset s m Q same reset locks extremes teach =
-    by-test (eqb (refusal_of Reset s) 0) (acted (reset_of s) 0) (acted s (refusal_of Reset s)) (λ (x : Acted). Q x.state)
-    (λ e. reset tt (reset-allowed s (eqb-true (refusal_of Reset s) 0 (is_true (eqb (refusal_of Reset s) 0) e)))) (λ _. same)
+    by-test (is_none (refusal_of Reset s)) (acted (reset_of s) no_note) (acted s (refusal_of Reset s)) (λ (x : Acted). Q x.state)
+    (λ e. reset tt (reset-allowed s (unrefused (refusal_of Reset s) e))) (λ _. same)
 by-command (Teach k) s m Q same reset locks extremes teach =
-    by-test (eqb (refusal_of (Teach k) s) 0) (acted (teach_of s k) 0) (acted s (refusal_of (Teach k) s)) (λ (x : Acted). Q x.state) (λ e. teach k m tt e) (λ _. same)
+    by-test (is_none (refusal_of (Teach k) s)) (acted (teach_of s k) no_note) (acted s (refusal_of (Teach k) s)) (λ (x : Acted). Q x.state) (λ e. teach k m tt e) (λ _. same)
 
 -- an input acts or does not
 pub by-input : (l i : ℕ) (x : Acted) (Q : State → Type 0) →
@@ -70,7 +80,7 @@ by-input l i x Q acts rests = by-test (edge_at x.state l i) _ x (λ (y : Acted).
 -- ---- the marks
 
 -- a refused command keeps them
-pub refused-keeps : (a : Action) (s : State) (h : ℕ) → eqb (refusal_of a s) 0 ≡ false → marks_after a s h ≡ h
+pub refused-keeps : (a : Action) (s : State) (h : ℕ) → is_none (refusal_of a s) ≡ false → marks_after a s h ≡ h
 unfolding marks_after
 refused-keeps a s h e = rw e (go (is_reset a))
   where
@@ -94,7 +104,7 @@ good-input l i x g = by-input l i x Good (λ _. good-command (input_at x.state.t
 
 pub good-commands : (s : State) (l : ℕ) → Good s → Good (commands_of s l).state
 unfolding commands_of
-good-commands s l g = good-input l 2 (input_of l 1 (input_of l 0 (acted s 0))) (good-input l 1 (input_of l 0 (acted s 0)) (good-input l 0 (acted s 0) g))
+good-commands s l g = good-input l 2 (input_of l 1 (input_of l 0 (acted s no_note))) (good-input l 1 (input_of l 0 (acted s no_note)) (good-input l 0 (acted s no_note) g))
 
 -- ---- the inputs one by one
 
@@ -103,7 +113,7 @@ unfoldable pub inputs_of : ℕ → ℕ → Acted → Acted
 inputs_of l zero x = x
 inputs_of l (suc n) x = input_of l n (inputs_of l n x)
 
-pub all-inputs : (s : State) (l : ℕ) → inputs_of l 3 (acted s 0) ≡ commands_of s l
+pub all-inputs : (s : State) (l : ℕ) → inputs_of l 3 (acted s no_note) ≡ commands_of s l
 unfolding inputs_of commands_of
 all-inputs s l = refl
 
@@ -112,7 +122,7 @@ unfoldable pub marks_up_to : ℕ → ℕ → Acted → ℕ
 marks_up_to l zero x = no_halves
 marks_up_to l (suc n) x = marks_at l n (inputs_of l n x) (marks_up_to l n x)
 
-pub all-marks : (s : State) (l : ℕ) → marks_up_to l 3 (acted s 0) ≡ marks_left s l
+pub all-marks : (s : State) (l : ℕ) → marks_up_to l 3 (acted s no_note) ≡ marks_left s l
 unfolding marks_up_to inputs_of marks_left
 all-marks s l = refl
 

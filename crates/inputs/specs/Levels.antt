@@ -1,11 +1,14 @@
 -- Levels: what a change of the inputs' levels makes act, and the commands of the three inputs, each on what the earlier ones left.
 -- Paper 01, "Events and inputs", second paragraph; paper 02, K7, the marks. Inputs are i = 0..2. Assumes nothing.
-use Rattle.std.specs.Prelude.{List, Bool, true, false, cond, not, ◌&&◌, ◌||◌, ℕ, ◌/◌, ◌%◌, ◌^◌, eqb, ℤ}
+use Rattle.std.specs.Prelude.{Option, List, Bool, true, false, cond, not, ◌&&◌, ◌||◌, ℕ, ◌/◌, ◌%◌, ◌^◌, eqb, ℤ}
+use Rattle.std.specs.Option.{option_or}
 use Rattle.settings.specs.declared.Config.{Config}
 use Rattle.settings.specs.declared.Config.TheVariants.{Low, High, Rising, Falling}
 use Rattle.settings.specs.Settings.{input_at}
 use Rattle.reading.specs.Reading.{no_halves}
+use Rattle.state.specs.declared.Refusal.{Refusal}
 use Rattle.state.specs.declared.State.{State}
+use Rattle.state.specs.Refusal.{no_note}
 use Rattle.inputs.specs.Commands.{Acted, acted, marks_after, command_of}
 
 -- the level of input i + 1, true for high
@@ -30,8 +33,8 @@ unfoldable pub edge_at : State → ℕ → ℕ → Bool
 edge_at s l i = edge_in s.table s.live.levels l i
 
 -- "the note is that of the lowest refused input"
-abbrev pub first_note : ℕ → ℕ → ℕ
-first_note n m = cond (eqb n 0) m n
+abbrev pub first_note : Option Refusal → Option Refusal → Option Refusal
+first_note n m = option_or n m
 
 -- input i + 1 acts on what the inputs before it left
 abbrev pub input_acts : ℕ → Acted → Acted
@@ -48,12 +51,12 @@ marks_at l i x h = cond (edge_at x.state l i) (marks_after (input_at x.state.tab
 
 -- "the actions of inputs 1, 2, 3 in that order"
 unfoldable pub commands_of : State → ℕ → Acted
-commands_of s l = input_of l 2 (input_of l 1 (input_of l 0 (acted s 0)))
+commands_of s l = input_of l 2 (input_of l 1 (input_of l 0 (acted s no_note)))
 
 -- some input does so, each asked on what the earlier ones left
 abbrev pub some_input : (ℕ → Acted → Bool) → State → ℕ → Bool
-some_input does s l = does 0 (acted s 0) || (does 1 (input_of l 0 (acted s 0)) || does 2 (input_of l 1 (input_of l 0 (acted s 0))))
+some_input does s l = does 0 (acted s no_note) || (does 1 (input_of l 0 (acted s no_note)) || does 2 (input_of l 1 (input_of l 0 (acted s no_note))))
 
 -- K7: the marks of the last reset carried out, none where there is none
 unfoldable pub marks_left : State → ℕ → ℕ
-marks_left s l = marks_at l 2 (input_of l 1 (input_of l 0 (acted s 0))) (marks_at l 1 (input_of l 0 (acted s 0)) (marks_at l 0 (acted s 0) no_halves))
+marks_left s l = marks_at l 2 (input_of l 1 (input_of l 0 (acted s no_note))) (marks_at l 1 (input_of l 0 (acted s no_note)) (marks_at l 0 (acted s no_note) no_halves))

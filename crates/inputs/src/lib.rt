@@ -8,41 +8,42 @@ ghost use Rattle.integers.specs.Limit.{Z};
 ghost use Rattle.parameters.specs.Valid.{Valid};
 ghost use Rattle.settings.specs.Settings.{Aimed, input_at};
 ghost use Rattle.state.specs.State.{state_of, halves_in};
+ghost use Rattle.state.specs.Refusal.{no_note};
 ghost use Rattle.state.specs.Valid.{Good};
 ghost use Rattle.inputs.specs.Commands.{acted, left_by, reset_refusal, reset_of, locks_cleared, extremes_at, extremes_cleared, teach_refusal, teach_of, refusal_of, carried_out, marks_after, command_of};
-ghost use Rattle.inputs.specs.Levels.{high_at, on_rise, acts_on, edge_in, first_note, input_acts, commands_of, marks_left};
-ghost use Rattle.inputs.specs.Freeze.{lasts, freezes, frozen};
+ghost use Rattle.inputs.specs.Levels.{high_at, on_rise, acts_on, edge_in, input_acts, commands_of, marks_left};
+ghost use Rattle.inputs.specs.Freeze.{lasts, freezes, frozen, shown_by};
 
 use settings::{Action, Config};
-use state::{Extremes, Live, Outcome};
+use state::{Extremes, Live, Outcome, Refusal};
 
-// Why a reset is refused: 13 before 12, or 0.
-fn reset_refusal(seen: bool, error: u32, start: u32) -> u8
+// Why a reset is refused, if it is: nothing to take before the offset's range.
+fn reset_refusal(seen: bool, error: u32, start: u32) -> Option<Refusal>
     ensures { result ≡ reset_refusal seen error start }
 {
     if !seen | (error == 3) {
-        return 13;
+        return Some(Refusal::NothingToTake);
     }
     if (integers::Z as u32) < start {
-        return 12;
+        return Some(Refusal::OffsetOutOfRange);
     }
-    0
+    None
 }
 
-// Why a teach is refused: 13, or 0.
-fn teach_refusal(seen: bool, error: u32) -> u8
+// Why a teach is refused, if it is.
+fn teach_refusal(seen: bool, error: u32) -> Option<Refusal>
     ensures { result ≡ teach_refusal seen error }
 {
     if seen & (error == 0) {
-        return 0;
+        return None;
     }
-    13
+    Some(Refusal::NothingToTake)
 }
 
 // Reset: the offset becomes what the result starts from.
 fn reset(t: &mut [i32; 104], l: Live) -> Outcome
     requires { Valid t.old × (l.basis.start ≤ Z) }
-    ensures is { left_by t.new result ≡ acted (reset_of (state_of t.old l)) 0 }
+    ensures is { left_by t.new result ≡ acted (reset_of (state_of t.old l)) no_note }
     ensures marks { result.halves ≡ halves_in (reset_of (state_of t.old l)) }
 {
     let b = l.basis;
@@ -52,7 +53,7 @@ fn reset(t: &mut [i32; 104], l: Live) -> Outcome
     let live = state::reread(l, r);
     Outcome {
         live,
-        note: 0,
+        note: None,
         halves: m.halves,
     }
 }
@@ -66,21 +67,16 @@ fn clear_locks(l: Live) -> Live
 }
 
 // Least and greatest both at a result, or none before the first telegram or under an error.
-fn extremes_at(seen: bool, error: u32, res: i32) -> Extremes
+fn extremes_at(seen: bool, error: u32, res: i32) -> Option<Extremes>
     ensures { result ≡ extremes_at seen error res }
 {
     if seen & (error == 0) {
-        return Extremes {
-            any: true,
+        return Some(Extremes {
             least: res,
             greatest: res,
-        };
+        });
     }
-    Extremes {
-        any: false,
-        least: 0,
-        greatest: 0,
-    }
+    None
 }
 
 // Clear least and greatest: both at the present result, or none; and the record of the drive empty.
@@ -103,24 +99,24 @@ fn teach(t: &mut [i32; 104], l: Live, k: usize) -> Live
     l
 }
 
-// Why an action is refused, or 0.
-fn refusal(a: Action, t: &[i32; 104], l: Live) -> u8
+// Why an action is refused, if it is.
+fn refusal(a: Action, t: &[i32; 104], l: Live) -> Option<Refusal>
     ensures { result ≡ refusal_of a (state_of t.now l) }
 {
     let error = state::error_in(l.reading);
     let b = l.basis;
     match a {
-        Action::None => 0,
+        Action::None => None,
         Action::Reset => reset_refusal(l.seen, error, b.start),
-        Action::Freeze => 0,
-        Action::ClearLocks => 0,
-        Action::ClearExtremes => 0,
+        Action::Freeze => None,
+        Action::ClearLocks => None,
+        Action::ClearExtremes => None,
         Action::Teach(_) => teach_refusal(l.seen, error),
     }
 }
 
 // An outcome for which no result was worked out: the marks stay as they were.
-fn kept(live: Live, note: u8, halves: u8) -> Outcome
+fn kept(live: Live, note: Option<Refusal>, halves: u8) -> Outcome
     ensures { result ≡ record { live = live; note = note; halves = halves } }
 {
     Outcome { live, note, halves }
@@ -128,31 +124,30 @@ fn kept(live: Live, note: u8, halves: u8) -> Outcome
 
 // An action that is not refused, carried out; a reset alone brings marks.
 fn carry_out(a: Action, t: &mut [i32; 104], l: Live, halves: u8) -> Outcome
-    requires { Valid t.old × (Aimed a × (refusal_of a (state_of t.old l) ≡ 0)) }
-    ensures is { left_by t.new result ≡ acted (carried_out a (state_of t.old l)) 0 }
+    requires { Valid t.old × (Aimed a × (refusal_of a (state_of t.old l) ≡ no_note)) }
+    ensures is { left_by t.new result ≡ acted (carried_out a (state_of t.old l)) no_note }
     ensures marks { result.halves ≡ marks_after a (state_of t.old l) halves }
 {
     match a {
-        Action::None => kept(l, 0, halves),
+        Action::None => kept(l, None, halves),
         Action::Reset => reset(t, l),
-        Action::Freeze => kept(l, 0, halves),
-        Action::ClearLocks => kept(clear_locks(l), 0, halves),
-        Action::ClearExtremes => kept(clear_extremes(l), 0, halves),
-        Action::Teach(k) => kept(teach(t, l, k), 0, halves),
+        Action::Freeze => kept(l, None, halves),
+        Action::ClearLocks => kept(clear_locks(l), None, halves),
+        Action::ClearExtremes => kept(clear_extremes(l), None, halves),
+        Action::Teach(k) => kept(teach(t, l, k), None, halves),
     }
 }
 
-// A command: carried out, or refused with its number.
+// A command: carried out, or refused.
 fn command(a: Action, t: &mut [i32; 104], l: Live, halves: u8) -> Outcome
     requires { Valid t.old × Aimed a }
     ensures is { left_by t.new result ≡ command_of a (state_of t.old l) }
     ensures marks { result.halves ≡ marks_after a (state_of t.old l) halves }
 {
-    let note = refusal(a, t, l);
-    if note != 0 {
-        return kept(l, note, halves);
+    match refusal(a, t, l) {
+        None => carry_out(a, t, l, halves),
+        Some(r) => kept(l, Some(r), halves),
     }
-    carry_out(a, t, l, halves)
 }
 
 // Whether input i + 1 is high.
@@ -197,17 +192,7 @@ fn edge(t: &[i32; 104], was: u8, levels: u8, i: usize) -> bool
     )
 }
 
-// The note of the lowest refused input.
-fn first_note(n: u8, m: u8) -> u8
-    ensures { result ≡ first_note n m }
-{
-    if n == 0 {
-        return m;
-    }
-    n
-}
-
-// Input i + 1 acts on what the inputs before it left.
+// Input i + 1 acts on what the inputs before it left; the note is that of the lowest refused input.
 fn input(t: &mut [i32; 104], x: Outcome, i: usize) -> Outcome
     requires { Valid t.old × (i < 3) }
     ensures is { left_by t.new result ≡ input_acts i (left_by t.old x) }
@@ -216,7 +201,7 @@ fn input(t: &mut [i32; 104], x: Outcome, i: usize) -> Outcome
     let l = x.live;
     let a = settings::action_at(t, i);
     let y = command(a, t, l, x.halves);
-    let note = first_note(x.note, y.note);
+    let note = x.note.or(y.note);
     let next = y.live;
     Outcome {
         live: next,
@@ -234,16 +219,14 @@ pub fn act(t: &mut [i32; 104], l: Live, levels: u8) -> Outcome
 {
     let mut x = Outcome {
         live: l,
-        note: 0,
+        note: None,
         halves: 0,
     };
-    let mut i: usize = 0;
-    while i < 3 {
+    for i in 0..3 {
         let n = x.live;
         if edge(t, n.levels, levels, i) {
             x = input(t, x, i);
         }
-        i += 1;
     }
     x
 }
@@ -275,11 +258,15 @@ fn holds(t: &[i32; 104], levels: u8, i: usize) -> bool
 pub fn is_frozen(t: &[i32; 104], levels: u8) -> bool
     ensures { result ≡ frozen t.now levels }
 {
-    if holds(t, levels, 0) {
-        return true;
+    holds(t, levels, 0) || holds(t, levels, 1) || holds(t, levels, 2)
+}
+
+// The shown value after an event: the result, or held.
+pub fn shown_after(held: bool, shown: i32, res: i32) -> i32
+    ensures { result ≡ shown_by held shown res }
+{
+    if held {
+        return shown;
     }
-    if holds(t, levels, 1) {
-        return true;
-    }
-    holds(t, levels, 2)
+    res
 }

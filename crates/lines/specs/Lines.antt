@@ -7,6 +7,7 @@ use Rattle.decimal.specs.Decimal.{largest, text_of}
 use Rattle.events.specs.declared.Event.{Event}
 use Rattle.events.specs.declared.Event.TheVariants.{Telegram, Levels, Tick}
 use Rattle.measurement.specs.Measure.{error_number}
+use Rattle.state.specs.Refusal.{note_number}
 use Rattle.panel.specs.declared.Answer.{Answer}
 use Rattle.text.specs.Marks.{space, newline, number}
 
@@ -92,7 +93,7 @@ answer_fields a =
     ∷ number (error_number a.error)
     ∷ outs_text a.outputs
     ∷ analog_text a.drive (code_in a)
-    ∷ number a.note
+    ∷ number (note_number a.note)
     ∷ []
 
 -- event kind result shown error outs analog note

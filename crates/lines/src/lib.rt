@@ -95,7 +95,7 @@ fn put_drives(out: &mut [u8], at: usize, t: &[i32; 104], o: Outcome) -> usize
     let drive = reading.drive;
     let p1 = put_outs(out, at, panel::outputs(t, switches));
     let p2 = put_analog(out, p1, drive, reading.code);
-    text::put_natural(out, p2, o.note as u64, b'\n')
+    text::put_natural(out, p2, state::note_number(o.note) as u64, b'\n')
 }
 
 // Puts what stands on a line from the result to the note, and ends the line.

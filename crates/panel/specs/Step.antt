@@ -1,8 +1,11 @@
 -- A step: an event and a state give the answer, with the new state in it; a refused event changes nothing.
 -- Paper 01, "Events and inputs", "Switching" and "Where each check sits", event; paper 02, K6, the record, and K7, the marks in the answer. Assumes nothing.
-use Rattle.std.specs.Prelude.{Bool, cond, List, ℕ, leb, ℤ}
+use Rattle.std.specs.Prelude.{Option, Some, Bool, cond, List, ℕ, leb, ℤ}
 use Rattle.state.specs.declared.Outcome.{Outcome}
+use Rattle.state.specs.declared.Refusal.{Refusal}
+use Rattle.state.specs.declared.Refusal.TheVariants.{LevelsAbove, BitAbove}
 use Rattle.state.specs.declared.State.{State}
+use Rattle.state.specs.Refusal.{no_note}
 use Rattle.state.specs.State.{state_of, with_levels, with_shown, with_switches, recorded_of, halves_in, received_of}
 use Rattle.inputs.specs.Levels.{commands_of, marks_left}
 use Rattle.inputs.specs.Freeze.{frozen}
@@ -22,7 +25,7 @@ abbrev pub outputs_in : List ℤ → List Switch → List Bool
 outputs_in t ss = outputs_of (preselections_of t) ss
 
 -- "carries the new state, the result, the shown value, error, output levels, drive and a note"; K7, "the event's answer gives the three marks"
-unfoldable pub answer_of : State → ℕ → ℕ → Answer
+unfoldable pub answer_of : State → Option Refusal → ℕ → Answer
 answer_of s note halves =
     record {
       state = s;
@@ -37,7 +40,7 @@ answer_of s note halves =
 
 -- what a state answers that was given no event: no note, and no marks
 abbrev pub unasked : State → Answer
-unasked s = answer_of s 0 no_halves
+unasked s = answer_of s no_note no_halves
 
 -- the answer that a table and the outcome beside it give
 abbrev pub answer_by : List ℤ → Outcome → Answer
@@ -72,15 +75,15 @@ ended_of s = recorded_of (settled_of s)
 
 -- 11: a telegram bit above N is set
 unfoldable pub on_telegram : State → ℕ → Answer
-on_telegram s w = cond (accepts_of s.table w) (answer_of (ended_of (received_of s w)) 0 (halves_in (received_of s w))) (answer_of s 11 no_halves)
+on_telegram s w = cond (accepts_of s.table w) (answer_of (ended_of (received_of s w)) no_note (halves_in (received_of s w))) (answer_of s (Some BitAbove) no_halves)
 
 -- 10: levels above 7
 unfoldable pub on_levels : State → ℕ → Answer
-on_levels s l = cond (leb l 7) (answer_of (ended_of (with_levels (commands_of s l).state l)) (commands_of s l).note (marks_left s l)) (answer_of s 10 no_halves)
+on_levels s l = cond (leb l 7) (answer_of (ended_of (with_levels (commands_of s l).state l)) (commands_of s l).note (marks_left s l)) (answer_of s (Some LevelsAbove) no_halves)
 
 -- Switching, "ticks use it up": pulses, and through them signals and outputs
 unfoldable pub on_tick : State → ℕ → Answer
-on_tick s ms = answer_of (recorded_of (with_switches s (all_ticked ms s.live.switches))) 0 no_halves
+on_tick s ms = answer_of (recorded_of (with_switches s (all_ticked ms s.live.switches))) no_note no_halves
 
 unfoldable pub step_of : State → Event → Answer
 step_of s (Telegram w) = on_telegram s w

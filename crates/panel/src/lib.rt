@@ -7,12 +7,13 @@ ghost use Rattle.std.specs.Prelude.{◌≡◌, false};
 ghost use Rattle.driverecord.specs.DriveRecord.{present_of};
 ghost use Rattle.driverecord.specs.Numbers.{Number, Numbers};
 ghost use Rattle.state.specs.State.{state_of, set_switches, set_recorded};
+ghost use Rattle.state.specs.Refusal.{no_note};
 ghost use Rattle.state.specs.Valid.{Good};
 ghost use Rattle.parameters.specs.Valid.{Valid};
 ghost use Rattle.reading.specs.Reading.{no_halves};
 ghost use Rattle.switching.specs.Switching.{all_ticked};
 ghost use Rattle.panel.specs.Load.{loaded_of};
-ghost use Rattle.panel.specs.Step.{answer_of, answer_by, outputs_in, switches_after, shown_after, settled_of, on_telegram, on_levels, step_of};
+ghost use Rattle.panel.specs.Step.{answer_of, answer_by, outputs_in, switches_after, settled_of, on_telegram, on_levels, step_of};
 ghost use Rattle.panel.specs.StepWay.{answer_after};
 ghost use Rattle.panel.specs.Telegrams.{diagnosed_of, built_by};
 
@@ -20,7 +21,7 @@ use analog::Drive;
 use events::Event;
 use measurement::Error;
 use ssi::{Built, Diagnosis};
-use state::{Live, Outcome, State};
+use state::{Live, Outcome, Refusal, State};
 use switching::Switch;
 
 // The answer to an event.
@@ -36,8 +37,8 @@ pub struct Answer {
     // The levels of outputs 1 to 4, true for high.
     pub outputs: [bool; 4],
     pub drive: Drive,
-    // The refusal of the event or of its lowest refused input, 0 for none.
-    pub note: u8,
+    // The refusal of the event or of its lowest refused input.
+    pub note: Option<Refusal>,
     // Where a half decided in the result that the event worked out: 1 for scaling, 2 for linearization, 4 for the analog code, added.
     pub halves: u8,
 }
@@ -50,7 +51,7 @@ pub fn outputs(t: &[i32; 104], switches: [Switch; 4]) -> [bool; 4]
 }
 
 // The answer that a state gives, with a note and marks.
-pub fn answered(s: State, note: u8, halves: u8) -> Answer
+pub fn answered(s: State, note: Option<Refusal>, halves: u8) -> Answer
     ensures { result ≡ answer_of s note halves }
 {
     let l = s.live;
@@ -81,33 +82,23 @@ fn switches_after(seen: bool, t: &[i32; 104], res: i32, switches: [Switch; 4]) -
     switching::switch_all(settings::preselections(t), res, switches)
 }
 
-// The shown value after an event: the result, or held.
-fn shown_after(t: &[i32; 104], levels: u8, shown: i32, res: i32) -> i32
-    ensures { result ≡ shown_after t.now levels shown res }
-{
-    if inputs::is_frozen(t, levels) {
-        return shown;
-    }
-    res
-}
-
 // What an event does before switching and display.
 #[derive(Clone, Copy)]
 struct Begun {
     live: Live,
-    note: u8,
+    note: Option<Refusal>,
     halves: u8,
     // Whether switching and display follow: not after a refusal or a tick.
     settles: bool,
 }
 
 // A refused event: nothing changes.
-fn refused(l: Live, note: u8) -> Begun
-    ensures { result ≡ record { live = l; note = note; halves = no_halves; settles = false } }
+fn refused(l: Live, why: Refusal) -> Begun
+    ensures { result ≡ record { live = l; note = Some why; halves = no_halves; settles = false } }
 {
     Begun {
         live: l,
-        note,
+        note: Some(why),
         halves: 0,
         settles: false,
     }
@@ -119,7 +110,7 @@ fn on_telegram(t: &[i32; 104], l: Live, telegram: u32) -> Begun
     ensures { answer_after t.now result ≡ on_telegram (state_of t.now l) telegram }
 {
     if !reading::accepts(t, telegram) {
-        return refused(l, 11);
+        return refused(l, Refusal::BitAbove);
     }
     let was = l.basis;
     let b = reading::basis_after(t, was, telegram);
@@ -128,7 +119,7 @@ fn on_telegram(t: &[i32; 104], l: Live, telegram: u32) -> Begun
     let next = state::recorded(state::received(l, b, r));
     Begun {
         live: next,
-        note: 0,
+        note: None,
         halves: m.halves,
         settles: true,
     }
@@ -140,7 +131,7 @@ fn on_levels(t: &mut [i32; 104], l: Live, levels: u8) -> Begun
     ensures { answer_after t.new result ≡ on_levels (state_of t.old l) levels }
 {
     if 7 < levels {
-        return refused(l, 10);
+        return refused(l, Refusal::LevelsAbove);
     }
     let x = inputs::act(t, l, levels);
     let n = x.live;
@@ -156,14 +147,14 @@ fn on_levels(t: &mut [i32; 104], l: Live, levels: u8) -> Begun
 // A tick: pulses are used up, and the record is brought up to date.
 fn on_tick(l: Live, ms: u16) -> Begun
     requires { Numbers l.driven × Number (present_of l.reading.drive) }
-    ensures { result ≡ record { live = set_recorded (set_switches l (all_ticked ms l.switches)); note = 0; halves = no_halves; settles = false } }
+    ensures { result ≡ record { live = set_recorded (set_switches l (all_ticked ms l.switches)); note = no_note; halves = no_halves; settles = false } }
 {
     let switches = l.switches;
     let next = state::recorded(state::with_switches(l, switching::tick_all(ms, switches)));
     let settles = false;
     Begun {
         live: next,
-        note: 0,
+        note: None,
         halves: 0,
         settles,
     }
@@ -188,7 +179,8 @@ fn settle(t: &[i32; 104], l: Live) -> Live
     let reading = l.reading;
     let was = l.switches;
     let switches = switches_after(l.seen, t, reading.result, was);
-    let shown = shown_after(t, l.levels, l.shown, reading.result);
+    let held = inputs::is_frozen(t, l.levels);
+    let shown = inputs::shown_after(held, l.shown, reading.result);
     state::settled(l, switches, shown)
 }
 

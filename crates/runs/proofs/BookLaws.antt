@@ -1,6 +1,6 @@
 -- The book of table and events is what the state of a run says of levels, telegram and offset. At each event both move alike, since the table in force has
 -- the loaded one's layout and inputs, and since error 3 is in force exactly where the telegram's error bit reports it.
-use Rattle.std.specs.Prelude.{◌≡◌, refl, Bool, true, false, cond, ◌&&◌, ℕ, ◌<◌, eqb, leb, ℤ}
+use Rattle.std.specs.Prelude.{is_none, ◌≡◌, refl, Bool, true, false, cond, ◌&&◌, ℕ, ◌<◌, eqb, leb, ℤ}
 use Rattle.std.proofs.Common.{sym, ◌∙◌, subst, arith}
 use Rattle.std.proofs.Math.Path.{ap}
 use mathlib.Core.List.{List, [], ◌∷◌}
@@ -22,6 +22,7 @@ use Rattle.settings.specs.AlikeLaws.{input-alike}
 use Rattle.settings.specs.Settings.{is_reset, layout_of, input_at}
 use Rattle.ssi.specs.Telegram.{error_reported}
 use Rattle.state.specs.declared.State.{State}
+use Rattle.state.specs.Refusal.{no_note}
 use Rattle.state.specs.State.{fresh_of, error_of, reread_of, received_of}
 use Rattle.state.specs.Valid.{Good}
 use Rattle.inputs.specs.Commands.{Acted, acted, reset_refusal, reset_of, clear_locks_of, clear_extremes_of, teach_of, refusal_of, carried_out, command_of}
@@ -64,7 +65,7 @@ module _ {t : List ℤ} {s : State} {b : Book} (k : Kept t s) (m : Matches t s b
 module _ {t : List ℤ} {s : State} {b : Book} (g : Good s) (k : Kept t s) (m : Matches t s b) where
   -- O after a command
   abbrev Moved : Bool → Book
-  Moved resets = cond (resets && eqb (book_refusal t b) 0) (reset_book b) b
+  Moved resets = cond (resets && is_none (book_refusal t b)) (reset_book b) b
 
   book-reset : Matches t (reset_of s) (reset_book b)
   unfolding reset_of reread_of
@@ -85,9 +86,9 @@ module _ {t : List ℤ} {s : State} {b : Book} (g : Good s) (k : Kept t s) (m : 
   book-command ClearExtremes = record { levels = m.levels; seen = m.seen; basis = m.basis; reported = m.reported; offset = m.offset }
   book-command Reset =
       rw (refusal-same k m)
-      (both (eqb (book_refusal t b) 0) _ _ _ _ (λ (x : Acted) (u : Book). Matches t x.state u) (λ _. book-reset) (λ _. m))
+      (both (is_none (book_refusal t b)) _ _ _ _ (λ (x : Acted) (u : Book). Matches t x.state u) (λ _. book-reset) (λ _. m))
   book-command (Teach j) =
-      by-test (eqb (refusal_of (Teach j) s) 0) (acted (teach_of s j) 0) (acted s (refusal_of (Teach j) s)) (λ (x : Acted). Matches t x.state b)
+      by-test (is_none (refusal_of (Teach j) s)) (acted (teach_of s j) no_note) (acted s (refusal_of (Teach j) s)) (λ (x : Acted). Matches t x.state b)
       (λ _. record {
         levels = m.levels;
         seen = m.seen;
@@ -113,7 +114,7 @@ book-input {t} {b} l i h x g k m =
     (λ n. rw (is_false (edge_at x.state l i) n) m))
   where
     Moved-by : Bool → Book
-    Moved-by edge = cond ((edge && is_reset (input_at x.state.table i).action) && eqb (book_refusal t b) 0) (reset_book b) b
+    Moved-by edge = cond ((edge && is_reset (input_at x.state.table i).action) && is_none (book_refusal t b)) (reset_book b) b
 
 -- ---- an event
 
@@ -121,7 +122,7 @@ module _ {t : List ℤ} {s : State} {b : Book} (g : Good s) (k : Kept t s) (m : 
   book-commands : (l : ℕ) → Matches t (commands_of s l).state (book_input t l 2 (book_input t l 1 (book_input t l 0 b)))
   unfolding commands_of
   book-commands l =
-      let x₀ = acted s 0 in
+      let x₀ = acted s no_note in
       let x₁ = input_of l 0 x₀ in
       let x₂ = input_of l 1 x₁ in
       let g₁ = good-input l 0 x₀ g in

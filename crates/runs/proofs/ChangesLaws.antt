@@ -1,12 +1,13 @@
 -- While no command stores a preselection, each condition of a run obeys the law of its mode from event to event: commands leave conditions as they are, a settled
 -- event turns them by the mode's rule on the result answered, ticks and refusals keep them. A teach is the only command that writes a preselection.
-use Rattle.std.specs.Prelude.{◌≡◌, Bool, true, false, not, ◌&&◌, ◌||◌, ℕ, zero, suc, ◌<◌, T, eqb, leb, ℤ, pos, length}
+use Rattle.std.specs.Prelude.{is_none, ◌≡◌, Bool, true, false, not, ◌&&◌, ◌||◌, ℕ, zero, suc, ◌<◌, T, eqb, leb, ℤ, pos, length}
 use Rattle.std.proofs.Math.Path.{refl, subst}
 use Rattle.std.proofs.Common.{sym, ap, ◌∙◌, arith}
 use mathlib.Core.List.{List, [], ◌∷◌}
 use Rattle.inputs.specs.Commands.{Acted, acted, reset_of, clear_locks_of, clear_extremes_of, teach_of, refusal_of, command_of}
 use Rattle.inputs.proofs.CommandLaws.{by-command, by-input, input-aimed}
 use Rattle.inputs.specs.Levels.{edge_at, input_of, commands_of}
+use Rattle.state.specs.Refusal.{no_note}
 use Rattle.state.specs.State.{fresh_of, with_levels, with_switches, recorded_of, reread_of, received_of}
 use Rattle.events.specs.declared.Event.{Event}
 use Rattle.events.specs.declared.Event.TheVariants.{Telegram, Levels, Tick}
@@ -79,7 +80,7 @@ unfolding teaches reset_of reread_of clear_locks_of clear_extremes_of
 command-stores a s m n =
     by-command a s m (λ (u : State). preselections_in u ≡ preselections_in s) refl
     (λ _ _. offset-preselections s.table (pos s.live.basis.start)) refl refl
-    (λ k h y z. absurd (never (teaches a s) (both (is_teach a) (eqb (refusal_of a s) 0) y z) n))
+    (λ k h y z. absurd (never (teaches a s) (both (is_teach a) (is_none (refusal_of a s)) y z) n))
 
 input-stores : (l i : ℕ) (x : Acted) → T (not (stores_at l i x)) → preselections_in (input_of l i x).state ≡ preselections_in x.state
 unfolding stores_at
@@ -108,7 +109,7 @@ step-stores s (Levels l) n =
     (λ _. refl)
   where
     x₀ : Acted
-    x₀ = acted s 0
+    x₀ = acted s no_note
 
     x₁ : Acted
     x₁ = input_of l 0 x₀
@@ -129,7 +130,7 @@ module _ {t : List ℤ} (none : (i : ℕ) → i < 3 → T (not (is_teach (input_
   unfolding some_command
   step-quiet s (Telegram w) c = tt
   step-quiet s (Levels l) c =
-      let x₀ = acted s 0 in
+      let x₀ = acted s no_note in
       let x₁ = input_of l 0 x₀ in
       let c₁ = kept-input t l 0 x₀ c in
       no-and (leb l 7) _
@@ -201,7 +202,7 @@ module _ (k : ℕ) (small : k < 4) where
   left-commands : (s : State) (l : ℕ) → length s.live.switches ≡ 4 → Left s (commands_of s l).state k
   unfolding commands_of
   left-commands s l e =
-      left-input l 2 s (input_of l 1 (input_of l 0 (acted s 0))) (left-input l 1 s (input_of l 0 (acted s 0)) (left-input l 0 s (acted s 0) (left-refl s e)))
+      left-input l 2 s (input_of l 1 (input_of l 0 (acted s no_note))) (left-input l 1 s (input_of l 0 (acted s no_note)) (left-input l 0 s (acted s no_note) (left-refl s e)))
 
 -- ---- an event turns a condition by the rule of its mode
 

@@ -17,6 +17,7 @@ use Rattle.reading.specs.Reading.{reading_of, no_halves, curve_from, slope_at}
 use Rattle.reading.specs.ReadingLaws as reading
 use Rattle.settings.specs.Settings.{is_teach, preselection_of, preselections_of, input_at}
 use Rattle.settings.specs.SettingsLaws.{preselection-at}
+use Rattle.state.specs.Refusal.{no_note}
 use Rattle.state.specs.State.{fresh_of}
 use Rattle.state.proofs.ValidLaws.{good-fresh}
 use Rattle.switching.specs.declared.Preselection.{Preselection}
@@ -79,7 +80,7 @@ module _ {t : List ℤ} (v : Valid t) where
   accurately : (es : List Event) → T (book_of t es).seen → (last_answer t es).error ≡ Error.None → Accurate (last_answer t es).result (exact_at t (book_of t es)) (slope_at t)
   unfolding answer_of
   accurately es =
-      let o = last-own (unasked (fresh_of t)) es (answer-own (fresh_of t) 0 no_halves) in
+      let o = last-own (unasked (fresh_of t)) es (answer-own (fresh_of t) no_note no_halves) in
       rw (own-result o, own-error o, last-state (unasked (fresh_of t)) es)
       (accurate-in (good-run (good-fresh v) es) (kept_run (kept_fresh t) es) (book-run (good-fresh v) (kept_fresh t) (book-fresh t) es))
 

@@ -1,5 +1,5 @@
 -- A run goes one event at a time, every answer speaks of the state it carries, and the last answer carries the state in which the run ends.
-use Rattle.std.specs.Prelude.{◌≡◌, refl, List, [], ◌∷◌, ℕ, ◌+◌, ◌≤◌, ◌<◌, leb, length, get_or, drop}
+use Rattle.std.specs.Prelude.{Option, ◌≡◌, refl, List, [], ◌∷◌, ℕ, ◌+◌, ◌≤◌, ◌<◌, leb, length, get_or, drop}
 use Rattle.std.proofs.Common.{add-one, drop_of_length-le}
 use Rattle.std.proofs.Math.Seq.{drop-cons}
 use Rattle.events.specs.declared.Event.{Event}
@@ -7,6 +7,7 @@ use Rattle.events.specs.declared.Event.TheVariants.{Telegram, Levels, Tick}
 use Rattle.integers.specs.ChoiceLaws.{by-test}
 use Rattle.reading.specs.Reading.{accepts_of}
 use Rattle.panel.specs.declared.Answer.{Answer}
+use Rattle.state.specs.declared.Refusal.{Refusal}
 use Rattle.state.specs.declared.State.{State}
 use Rattle.panel.specs.Step.{answer_of, on_telegram, on_levels, on_tick, step_of}
 use Rattle.runs.specs.Run.{run_of, answers_of, last_of}
@@ -36,9 +37,9 @@ module _ (s : State) (es : List Event) (i : ℕ) where
 abbrev pub Own : Answer → Type 0
 Own a = a ≡ answer_of a.state a.note a.halves
 
-pub answer-own : (s : State) (note halves : ℕ) → Own (answer_of s note halves)
+pub answer-own : (s : State) (n : Option Refusal) (halves : ℕ) → Own (answer_of s n halves)
 unfolding answer_of
-answer-own s note halves = refl
+answer-own s n halves = refl
 
 -- refused or not
 pub step-own : (s : State) (e : Event) → Own (step_of s e)

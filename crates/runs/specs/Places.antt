@@ -25,6 +25,7 @@ use Rattle.parameters.specs.Load as load
 use Rattle.parameters.specs.Search as search
 use Rattle.ssi.specs.Telegram as ssi
 use Rattle.state.specs.Extremes as extremes
+use Rattle.state.specs.Refusal.{note_number}
 use Rattle.state.specs.State as state
 use Rattle.state.specs.State.{fresh_of}
 use Rattle.switching.specs.Condition as condition
@@ -84,7 +85,7 @@ abbrev shown : List ℤ → ℕ → ℤ
 shown t w = (last_answer t (Telegram w ∷ [])).shown
 
 abbrev note : List ℤ → ℕ → ℤ
-note t w = pos (last_answer t (Telegram w ∷ [])).note
+note t w = pos (note_number (last_answer t (Telegram w ∷ [])).note)
 
 abbrev error : List ℤ → ℕ → ℤ
 error t w = pos (measure.error_number (last_answer t (Telegram w ∷ [])).error)

@@ -32,11 +32,9 @@ fn run_on(a: Answer, log: &[u64]) -> Answer
     ensures valid { Good result.state }
 {
     let mut last = a;
-    let mut i: usize = 0;
-    while i < log.len() {
+    for w in log {
         let s = last.state;
-        last = panel::step(s, event_of(log[i]));
-        i += 1;
+        last = panel::step(s, event_of(*w));
     }
     last
 }
@@ -59,7 +57,7 @@ pub fn run(table: &[i32], log: &[u64]) -> Ran
 {
     let l = panel::load(table);
     let s = l.state;
-    let first = panel::answered(s, 0, 0);
+    let first = panel::answered(s, None, 0);
     if l.refusal != 0 {
         return Ran {
             refusal: l.refusal,

@@ -1,6 +1,6 @@
 -- THE REQUEST IN ONE EQUATION holds of every state and event. Nothing of an event but a clear and its end touches the record, a clear leaves it empty wherever its input
 -- stands, and an empty record that is brought up to date is what the request says of a clear there (`cleared-there`). Paper 02, K6. Assumes nothing.
-use Rattle.std.specs.Prelude.{◌≡◌, refl, Bool, true, false, cond, ◌&&◌, ◌||◌, ℕ, eqb, leb}
+use Rattle.std.specs.Prelude.{Option, is_none, ◌≡◌, refl, Bool, true, false, cond, ◌&&◌, ◌||◌, ℕ, eqb, leb}
 use Rattle.std.proofs.Common.{ap, ◌∙◌}
 use Rattle.analog.specs.declared.Drive.{Drive}
 use Rattle.driverecord.specs.declared.DriveRecord.{DriveRecord}
@@ -15,7 +15,9 @@ use Rattle.reading.specs.Reading.{accepts_of}
 use Rattle.settings.specs.declared.Action.{Action}
 use Rattle.settings.specs.declared.Action.TheVariants.{None, Reset, Freeze, ClearLocks, ClearExtremes, Teach}
 use Rattle.settings.specs.Settings.{is_clear_extremes, input_at}
+use Rattle.state.specs.declared.Refusal.{Refusal}
 use Rattle.state.specs.declared.State.{State}
+use Rattle.state.specs.Refusal.{no_note}
 use Rattle.state.specs.State.{reread_of, received_of}
 use Rattle.servicescreen.specs.ServiceScreen.{accepted, clears_at, clears, at_the_end, EndsSo}
 
@@ -26,7 +28,7 @@ abbrev emptied_if : Bool → DriveRecord → DriveRecord
 emptied_if c r = cond c (emptied r) r
 
 -- refused or not
-kept : (b : Bool) (s u : State) (n : ℕ) → u.live.driven ≡ s.live.driven → (cond b (acted u 0) (acted s n)).state.live.driven ≡ s.live.driven
+kept : (b : Bool) (s u : State) (n : Option Refusal) → u.live.driven ≡ s.live.driven → (cond b (acted u no_note) (acted s n)).state.live.driven ≡ s.live.driven
 kept true s u n e = e
 kept false s u n e = refl
 
@@ -36,8 +38,8 @@ command-driven None s = refl
 command-driven Freeze s = refl
 command-driven ClearLocks s = refl
 command-driven ClearExtremes s = refl
-command-driven Reset s = kept (eqb (refusal_of Reset s) 0) s (reset_of s) _ refl
-command-driven (Teach k) s = kept (eqb (refusal_of (Teach k) s) 0) s (teach_of s k) _ refl
+command-driven Reset s = kept (is_none (refusal_of Reset s)) s (reset_of s) _ refl
+command-driven (Teach k) s = kept (is_none (refusal_of (Teach k) s)) s (teach_of s k) _ refl
 
 -- acting or not
 acts-or-rests : (b c : Bool) (x y : Acted) (r : DriveRecord) → y.state.live.driven ≡ emptied_if c r → x.state.live.driven ≡ r →
@@ -61,12 +63,12 @@ emptied-twice false c r = refl
 commands-driven : (s : State) (l : ℕ) → (commands_of s l).state.live.driven ≡ emptied_if (clears s (Levels l)) s.live.driven
 unfolding commands_of clears
 commands-driven s l =
-    input-driven l 2 x₂ ∙ ap (emptied_if (clears_at l 2 x₂)) (input-driven l 1 x₁ ∙ ap (emptied_if (clears_at l 1 x₁)) (input-driven l 0 (acted s 0)))
-    ∙ emptied-twice (clears_at l 1 x₁) (clears_at l 2 x₂) (emptied_if (clears_at l 0 (acted s 0)) s.live.driven)
-    ∙ emptied-twice (clears_at l 0 (acted s 0)) (clears_at l 1 x₁ || clears_at l 2 x₂) s.live.driven
+    input-driven l 2 x₂ ∙ ap (emptied_if (clears_at l 2 x₂)) (input-driven l 1 x₁ ∙ ap (emptied_if (clears_at l 1 x₁)) (input-driven l 0 (acted s no_note)))
+    ∙ emptied-twice (clears_at l 1 x₁) (clears_at l 2 x₂) (emptied_if (clears_at l 0 (acted s no_note)) s.live.driven)
+    ∙ emptied-twice (clears_at l 0 (acted s no_note)) (clears_at l 1 x₁ || clears_at l 2 x₂) s.live.driven
   where
     x₁ : Acted
-    x₁ = input_of l 0 (acted s 0)
+    x₁ = input_of l 0 (acted s no_note)
 
     x₂ : Acted
     x₂ = input_of l 1 x₁

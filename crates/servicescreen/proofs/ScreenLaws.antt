@@ -27,6 +27,7 @@ use Rattle.runs.specs.Run.{run_of, last_answer}
 use Rattle.runs.proofs.RunLaws.{answer-own, step-own, last-state, last-own, own-drive}
 use Rattle.settings.specs.Settings.{span_of}
 use Rattle.state.specs.declared.State.{State}
+use Rattle.state.specs.Refusal.{no_note}
 use Rattle.state.specs.State.{fresh_of}
 use Rattle.servicescreen.proofs.EventLaws.{ends_so}
 use Rattle.servicescreen.specs.ServiceScreen.{accepted, clears, at_the_end, codes_by, codes_from, codes_of, Screened}
@@ -136,7 +137,7 @@ last_end t es = last-state (unasked (fresh_of t)) es
 
 last-drive : (t : List ℤ) (es : List Event) → (last_answer t es).drive ≡ (last_answer t es).state.live.reading.drive
 unfolding answer_of
-last-drive t es = own-drive (last-own (unasked (fresh_of t)) es (answer-own (fresh_of t) 0 no_halves))
+last-drive t es = own-drive (last-own (unasked (fresh_of t)) es (answer-own (fresh_of t) no_note no_halves))
 
 -- THE SERVICE SCREEN
 pub screened : Screened

@@ -1,5 +1,5 @@
 -- A burst is its telegrams one by one: by induction over the list, behind any answer.
-use Rattle.std.specs.Prelude.{◌≡◌, refl, Bool, true, false, ℕ, suc, ◌+◌, ◌<◌, ◌≤◌, eqb, leb, ℤ, length, get_or, take}
+use Rattle.std.specs.Prelude.{Option, Some, is_none, ◌≡◌, refl, Bool, true, false, ℕ, suc, ◌+◌, ◌<◌, ◌≤◌, eqb, leb, ℤ, length, get_or, take}
 use Rattle.std.proofs.Common.{sym, ◌∙◌, inl, add_assoc, leb-true, leb-false}
 use Rattle.std.proofs.Math.Path.{ap, subst}
 use Rattle.std.proofs.Math.Bool.{cond}
@@ -15,15 +15,18 @@ use Rattle.panel.specs.Step.{unasked, answer_of, step_of, on_telegram, switched_
 use Rattle.reading.specs.Reading.{accepts_of}
 use Rattle.runs.specs.Run.{run_of, answers_of, last_of}
 use Rattle.runs.proofs.RunLaws.{last-state}
+use Rattle.state.specs.declared.Refusal.{Refusal}
+use Rattle.state.specs.declared.Refusal.TheVariants.{BitAbove, BurstTooLong}
 use Rattle.state.specs.declared.State.{State}
+use Rattle.state.specs.Refusal.{no_note}
 use Rattle.state.specs.State.{reread_of, received_of}
 use Rattle.sessions.specs.Session.{events_of}
 use Rattle.sessions.specs.SingleSteps.{all_accepted, Stops, SingleSteps, AsSingleSteps}
 
 -- ---- one telegram
 
--- the note of a telegram is 0 where it is accepted, else 11
-telegram-note : (s : State) (w : ℕ) → (step_of s (Telegram w)).note ≡ cond (accepts_of s.table w) 0 11
+-- the note of a telegram is none where it is accepted, else 11
+telegram-note : (s : State) (w : ℕ) → (step_of s (Telegram w)).note ≡ cond (accepts_of s.table w) no_note (Some BitAbove)
 unfolding step_of on_telegram answer_of
 telegram-note s w = map-cond (λ (a : Answer). a.note) (accepts_of s.table w) _ _
 
@@ -37,7 +40,7 @@ telegram-table s w = by-test (accepts_of s.table w) _ _ (λ (a : Answer). a.stat
 shifted : (n m : ℕ) (a : Answer) (ws : List ℕ) → taken_from (n + m) a ws ≡ burst (n + (taken_from m a ws).count) (taken_from m a ws).answer
 unfolding taken_from
 shifted n m a [] = refl
-shifted n m a (w ∷ ws) = go (eqb (answer_to a w).note 0) (shifted n (m + 1) (answer_to a w) ws)
+shifted n m a (w ∷ ws) = go (is_none (answer_to a w).note) (shifted n (m + 1) (answer_to a w) ws)
   where
     go : (b : Bool) →
         taken_from (n + (m + 1)) (answer_to a w) ws ≡ burst (n + (taken_from (m + 1) (answer_to a w) ws).count) (taken_from (m + 1) (answer_to a w) ws).answer →
@@ -63,9 +66,9 @@ module _ (a : Answer) (w : ℕ) (ws : List ℕ) (e : accepts_of a.state.table w 
   first_taken : taken_from 0 a (w ∷ ws) ≡ burst (suc (taken_from 0 (answer_to a w) ws).count) (taken_from 0 (answer_to a w) ws).answer
   unfolding taken_from
   first_taken =
-      let n : (answer_to a w).note ≡ 0 = telegram-note a.state w ∙ rw e in
+      let n : (answer_to a w).note ≡ no_note = telegram-note a.state w ∙ rw e in
       let x = taken_from 0 (answer_to a w) ws in
-      ap (λ (k : ℕ). cond (eqb k 0) (taken_from 1 (answer_to a w) ws) (burst 0 (noted a k))) n
+      ap (λ (k : Option Refusal). cond (is_none k) (taken_from 1 (answer_to a w) ws) (burst 0 (noted a k))) n
       ∙ shifted 1 0 (answer_to a w) ws
       ∙ ap (λ (k : ℕ). burst k x.answer) (one_more_lem x.count)
 
@@ -86,21 +89,21 @@ module _ (a : Answer) (w : ℕ) (ws : List ℕ) (e : accepts_of a.state.table w 
 
 -- the first is refused
 module _ (a : Answer) (w : ℕ) (ws : List ℕ) (e : accepts_of a.state.table w ≡ false) where
-  first-refused : taken_from 0 a (w ∷ ws) ≡ burst 0 (noted a 11)
+  first-refused : taken_from 0 a (w ∷ ws) ≡ burst 0 (noted a (Some BitAbove))
   unfolding taken_from
-  first-refused = let n : (answer_to a w).note ≡ 11 = telegram-note a.state w ∙ rw e in
-      ap (λ (k : ℕ). cond (eqb k 0) (taken_from 1 (answer_to a w) ws) (burst 0 (noted a k))) n
+  first-refused = let n : (answer_to a w).note ≡ Some BitAbove = telegram-note a.state w ∙ rw e in
+      ap (λ (k : Option Refusal). cond (is_none k) (taken_from 1 (answer_to a w) ws) (burst 0 (noted a k))) n
 
   behind-refused : Behind a (w ∷ ws) (taken_from 0 a (w ∷ ws))
   unfolding events_of answers_of last_of all_accepted noted
   behind-refused = subst (Behind a (w ∷ ws)) (sym first-refused) (record { answer = refl; accepted = refl; stops = inr (refl, omega arith, e) })
 
-behind : (a : Answer) (ws : List ℕ) → a.note ≡ 0 → Behind a ws (taken_from 0 a ws)
+behind : (a : Answer) (ws : List ℕ) → a.note ≡ no_note → Behind a ws (taken_from 0 a ws)
 unfolding taken_from events_of answers_of last_of all_accepted noted
 behind a [] z = record { answer = refl; accepted = refl; stops = inl (z, refl) }
 behind a (w ∷ ws) z = go (accepts_of a.state.table w) refl (behind (answer_to a w) ws)
   where
-    go : (b : Bool) → accepts_of a.state.table w ≡ b → ((answer_to a w).note ≡ 0 → Behind (answer_to a w) ws (taken_from 0 (answer_to a w) ws)) →
+    go : (b : Bool) → accepts_of a.state.table w ≡ b → ((answer_to a w).note ≡ no_note → Behind (answer_to a w) ws (taken_from 0 (answer_to a w) ws)) →
         Behind a (w ∷ ws) (taken_from 0 a (w ∷ ws))
     go true e h = behind-first a w ws e (h (telegram-note a.state w ∙ rw e))
     go false e h = behind-refused a w ws e
@@ -120,7 +123,7 @@ few s ws l =
       many = λ m. absurd (omega (arith, l, m));
     }
 
-many : (s : State) (ws : List ℕ) → most_telegrams < length ws → SingleSteps s ws (burst 0 (noted (unasked s) 21))
+many : (s : State) (ws : List ℕ) → most_telegrams < length ws → SingleSteps s ws (burst 0 (noted (unasked s) (Some BurstTooLong)))
 unfolding noted answer_of events_of run_of answers_of last_of all_accepted
 many s ws m = record { state = refl; answer = refl; accepted = refl; stops = λ l. absurd (omega (arith, l, m)); many = λ _. (refl, refl) }
 

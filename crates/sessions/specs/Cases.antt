@@ -15,6 +15,7 @@ use Rattle.reading.specs.Follow as follow
 use Rattle.reading.specs.Reading as reading
 use Rattle.settings.specs.Settings as settings
 use Rattle.ssi.specs.Telegram as ssi
+use Rattle.state.specs.Refusal.{note_number}
 use Rattle.state.specs.State as state
 use Rattle.state.specs.State.{fresh_of}
 use Rattle.switching.specs.Condition as condition
@@ -54,7 +55,7 @@ abbrev shown_of : Burst → Shown
 shown_of b =
     record {
       count = b.count;
-      note = b.answer.note;
+      note = note_number b.answer.note;
       result = b.answer.result;
       halves = b.answer.halves;
       locked = (switch_at b.answer.state.live.switches 0).locked;

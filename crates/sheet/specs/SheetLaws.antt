@@ -1,5 +1,5 @@
 -- What holds of every line: what is printed fits into the room for it, and the run that is kept stays valid. And what the code makes of an event.
-use Rattle.std.specs.Prelude.{◌≡◌, refl, Bool, true, false, cond, List, [], map, ℕ, ◌+◌, ◌*◌, ◌≤◌, eqb, ltb, ℤ, pos, length, take}
+use Rattle.std.specs.Prelude.{◌≡◌, refl, Bool, true, false, cond, Option, Some, None, List, [], map, ℕ, ◌+◌, ◌*◌, ◌≤◌, eqb, ltb, ℤ, pos, length, take}
 use Rattle.std.proofs.Common.{arith, ltb-false, length-append}
 use mir.Val.{bool_byte}
 use Rattle.text.specs.HexList.{hexes_of}
@@ -141,9 +141,10 @@ told-most : (n : Numeral) → length (told_by n) ≤ room
 told-most (Count n) = omega arith
 told-most Missing = omega arith
 
-extremes-most : (x : LeastAndGreatest) → length (extremes_text x) ≤ room
-unfolding extremes_text
-extremes-most x = simp length-append (omega (arith, text-at-most-19 (pos (bool_byte x.any)), text-at-most-19 x.least, text-at-most-19 x.greatest))
+extremes-most : (x : Option LeastAndGreatest) → length (extremes_text x) ≤ room
+unfolding extremes_numbers extremes_text
+extremes-most None = omega arith
+extremes-most (Some x) = simp length-append (omega (arith, text-at-most-19 x.least, text-at-most-19 x.greatest))
 
 plain-most : (s : Sheet) (c : Command) → length (plain_text s c) ≤ room
 unfolding plain_text start_text

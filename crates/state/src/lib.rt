@@ -9,6 +9,7 @@ ghost use Rattle.state.specs.State.{fresh_of, set_levels, set_basis, set_reading
 ghost use Rattle.driverecord.specs.DriveRecord.{present_of};
 ghost use Rattle.driverecord.specs.Numbers.{Number, Numbers};
 ghost use Rattle.state.specs.Extremes.{error_in, widened_of};
+ghost use Rattle.state.specs.Refusal.{refusal_number, note_number};
 
 use driverecord::DriveRecord;
 use reading::{Basis, Reading};
@@ -17,8 +18,6 @@ use switching::Switch;
 // The least and the greatest error-free result.
 #[derive(Clone, Copy)]
 pub struct Extremes {
-    // Whether there is one.
-    pub any: bool,
     pub least: i32,
     pub greatest: i32,
 }
@@ -36,7 +35,8 @@ pub struct Live {
     pub reading: Reading,
     // The shown value.
     pub shown: i32,
-    pub extremes: Extremes,
+    // Least and greatest, once there is an error-free result.
+    pub extremes: Option<Extremes>,
     // Present, lowest and highest drive.
     pub driven: DriveRecord,
     // The four preselections' conditions, pulses and locks.
@@ -50,12 +50,27 @@ pub struct State {
     pub live: Live,
 }
 
+// Why an event, a command or a burst is refused.
+#[derive(Clone, Copy)]
+pub enum Refusal {
+    // Levels above 7.
+    LevelsAbove,
+    // A telegram with a bit above N.
+    BitAbove,
+    // A reset whose offset would be out of range.
+    OffsetOutOfRange,
+    // A reset or a teach with no result to take.
+    NothingToTake,
+    // A burst of more than 1,024 telegrams.
+    BurstTooLong,
+}
+
 // What an event or a command leaves beside the table.
 #[derive(Clone, Copy)]
 pub struct Outcome {
     pub live: Live,
-    // The refusal of the event or of its lowest refused input, 0 for none.
-    pub note: u8,
+    // The refusal of the event or of its lowest refused input.
+    pub note: Option<Refusal>,
     // Where a half decided in the result that it worked out: 1 for scaling, 2 for linearization, 4 for the analog code, added.
     pub halves: u8,
 }
@@ -83,11 +98,7 @@ pub fn fresh(table: [i32; 104]) -> State
                 drive: analog::Drive::Off,
             },
             shown: 0,
-            extremes: Extremes {
-                any: false,
-                least: 0,
-                greatest: 0,
-            },
+            extremes: None,
             driven: driverecord::fresh(),
             switches: [off; 4],
         },
@@ -100,6 +111,29 @@ pub fn error_in(r: Reading) -> u32
 {
     let e = r.error;
     measurement::error_number(e)
+}
+
+// The number of a refusal.
+fn refusal_number(r: Refusal) -> u8
+    ensures { result ≡ refusal_number r }
+{
+    match r {
+        Refusal::LevelsAbove => 10,
+        Refusal::BitAbove => 11,
+        Refusal::OffsetOutOfRange => 12,
+        Refusal::NothingToTake => 13,
+        Refusal::BurstTooLong => 21,
+    }
+}
+
+// The number of a note, 0 for none.
+pub fn note_number(note: Option<Refusal>) -> u8
+    ensures { result ≡ note_number note }
+{
+    match note {
+        None => 0,
+        Some(r) => refusal_number(r),
+    }
 }
 
 // The lower of two results.
@@ -123,23 +157,21 @@ fn higher(a: i32, b: i32) -> i32
 }
 
 // Least and greatest with one more reading.
-fn widened(x: Extremes, r: Reading) -> Extremes
+fn widened(x: Option<Extremes>, r: Reading) -> Option<Extremes>
     ensures { result ≡ widened_of x r }
 {
     if error_in(r) != 0 {
         return x;
     }
-    if x.any {
-        return Extremes {
-            any: true,
-            least: lower(r.result, x.least),
-            greatest: higher(r.result, x.greatest),
-        };
-    }
-    Extremes {
-        any: true,
-        least: r.result,
-        greatest: r.result,
+    match x {
+        None => Some(Extremes {
+            least: r.result,
+            greatest: r.result,
+        }),
+        Some(e) => Some(Extremes {
+            least: lower(r.result, e.least),
+            greatest: higher(r.result, e.greatest),
+        }),
     }
 }
 
@@ -165,7 +197,7 @@ pub fn received(l: Live, b: Basis, r: Reading) -> Live
 }
 
 // Another reading, with least and greatest.
-pub fn with_reading(l: Live, reading: Reading, extremes: Extremes) -> Live
+pub fn with_reading(l: Live, reading: Reading, extremes: Option<Extremes>) -> Live
     ensures { result ≡ set_reading l reading extremes }
 {
     let mut n = l;

@@ -2,7 +2,7 @@
 -- equal, and with them all that follows. Commands move both alike, since a reset that 13 leaves is refused by neither. Paper 02, K4.
 use Rattle.std.proofs.Math.Path.{◌≡◌, refl, sym, ap}
 use Rattle.std.proofs.Common.{subst, ◌∙◌, mod-eq_of_lt, le-ltb, length-set}
-use Rattle.std.specs.Prelude.{Bool, ◌&&◌, ℕ, zero, suc, ◌*◌, ◌≤◌, ◌<◌, ltb, leb, ℤ, length}
+use Rattle.std.specs.Prelude.{Option, Some, is_none, Bool, ◌&&◌, ℕ, zero, suc, ◌*◌, ◌≤◌, ◌<◌, ltb, leb, ℤ, length}
 use Rattle.std.proofs.Math.Bool.{true, false, cond}
 use mathlib.Core.List.{List, [], ◌∷◌}
 use Rattle.std.proofs.Math.Decide.{ℕ_discrete}
@@ -41,7 +41,10 @@ use Rattle.settings.specs.declared.Action.TheVariants.{None, Reset, Freeze, Clea
 use Rattle.settings.specs.AlikeLaws.{layout-alike, loop-alike}
 use Rattle.settings.specs.Settings.{is_reset, Aimed, layout_of, input_at}
 use Rattle.ssi.specs.Telegram.{error_reported}
+use Rattle.state.specs.declared.Refusal.{Refusal}
+use Rattle.state.specs.declared.Refusal.TheVariants.{LevelsAbove, BitAbove, OffsetOutOfRange, NothingToTake}
 use Rattle.state.specs.declared.State.{State}
+use Rattle.state.specs.Refusal.{no_note, note_number}
 use Rattle.state.specs.State.{fresh_of, with_table, with_basis, with_levels, with_switches, error_of, halves_in, reread_of, received_of}
 use Rattle.reading.specs.declared.Reading.{Reading}
 use Rattle.state.specs.Valid.{Good}
@@ -119,17 +122,20 @@ module _ {t : List ℤ} (v : Valid t) (h : 0 < round_loop t) (c : ℕ) (multiple
   bit-off k y e = sym (kept-bit k y) ∙ e
 
   -- a reset is refused by 13 in both panels or in neither, and by 12 in neither
-  refusal-numbers : (seen : Bool) (error u p : ℕ) → (T seen → eqb error 3 ≡ false → u ≤ Z) → eqb (reset_refusal seen error p) 12 ≡ false →
+  refusal-numbers : (seen : Bool) (error u p : ℕ) → (T seen → eqb error 3 ≡ false → u ≤ Z) → eqb (note_number (reset_refusal seen error p)) 12 ≡ false →
       reset_refusal seen error u ≡ reset_refusal seen error p
   unfolding reset_refusal
   refusal-numbers false error u p f n = refl
   refusal-numbers true error u p f n = go (eqb error 3) refl n
     where
-      low : (b : Bool) → eqb (cond b 12 0) 12 ≡ false → ◌≡◌ {A = ℕ} 0 (cond b 12 0)
+      low : (b : Bool) → eqb (note_number (cond b (Some OffsetOutOfRange) no_note)) 12 ≡ false → no_note ≡ cond b (Some OffsetOutOfRange) no_note
       low true n = absurd (let z : ◌≡◌ {A = ℕ} 0 1 = cc in omega arith)
       low false n = refl
 
-      go : (b : Bool) → eqb error 3 ≡ b → eqb (cond b 13 (cond (ltb Z p) 12 0)) 12 ≡ false → ◌≡◌ {A = ℕ} (cond b 13 (cond (ltb Z u) 12 0)) (cond b 13 (cond (ltb Z p) 12 0))
+      refused : Bool → ℕ → Option Refusal
+      refused b start = cond b (Some NothingToTake) (cond (ltb Z start) (Some OffsetOutOfRange) no_note)
+
+      go : (b : Bool) → eqb error 3 ≡ b → eqb (note_number (refused b p)) 12 ≡ false → refused b u ≡ refused b p
       go true e n = refl
       go false e n = rw (le-ltb Z u (f tt e)) (low (ltb Z p) n)
 
@@ -141,7 +147,7 @@ module _ {t : List ℤ} (v : Valid t) (h : 0 < round_loop t) (c : ℕ) (multiple
         let u : s.live.basis.start ≡ P (floor_mod (pos o.live.basis.start) (pos R)) = ap P (x.basis.start r) in
         omega (arith, u, mod_below R h (pos o.live.basis.start), round-loop-range v)
 
-    refusal-tied : (a : Action) → eqb (refusal_of a o) 12 ≡ false → refusal_of a s ≡ refusal_of a o
+    refusal-tied : (a : Action) → eqb (note_number (refusal_of a o)) 12 ≡ false → refusal_of a s ≡ refusal_of a o
     unfolding refusal_of
     refusal-tied None n = refl
     refusal-tied Freeze n = refl
@@ -193,12 +199,12 @@ module _ {t : List ℤ} (v : Valid t) (h : 0 < round_loop t) (c : ℕ) (multiple
     note : x.note ≡ y.note
 
   -- a reset that is not refused has a telegram, and no error 3
-  allowed : (seen : Bool) (error u : ℕ) → T (eqb (reset_refusal seen error u) 0) → T seen × (eqb error 3 ≡ false)
+  allowed : (seen : Bool) (error u : ℕ) → T (is_none (reset_refusal seen error u)) → T seen × (eqb error 3 ≡ false)
   unfolding reset_refusal
   allowed false error u y = absurd y
   allowed true error u y = (tt, go (eqb error 3) y)
     where
-      go : (b : Bool) → T (eqb (cond b 13 (cond (ltb Z u) 12 0)) 0) → b ≡ false
+      go : (b : Bool) → T (is_none (cond b (Some NothingToTake) (cond (ltb Z u) (Some OffsetOutOfRange) no_note))) → b ≡ false
       go true y = absurd y
       go false y = refl
 
@@ -209,7 +215,7 @@ module _ {t : List ℤ} (v : Valid t) (h : 0 < round_loop t) (c : ℕ) (multiple
     abbrev p : ℤ
     p = pos o.live.basis.start
 
-    unreported : T (eqb (refusal_of Reset s) 0) → s.live.basis.reported ≡ false
+    unreported : T (is_none (refusal_of Reset s)) → s.live.basis.reported ≡ false
     unfolding refusal_of
     unreported y =
         let n = allowed s.live.seen (error_of s) s.live.basis.start y in
@@ -218,13 +224,13 @@ module _ {t : List ℤ} (v : Valid t) (h : 0 < round_loop t) (c : ℕ) (multiple
     reset-loop : round_loop (with_offset s.table u) ≡ R
     reset-loop = loop-alike (alike-trans (offset-alike s.table u) k.alike) stored-scaling
 
-    reset-tied : T (eqb (refusal_of Reset s) 0) → Ties (reset_of s) (reset_of o)
+    reset-tied : T (is_none (refusal_of Reset s)) → Ties (reset_of s) (reset_of o)
     unfolding reset_of
     reset-tied y =
         reread-tied h (with_table s (with_offset s.table u)) (with_table o (with_offset o.table p)) reset-loop (reset-tables g x (unreported y)) x.basis
         x.levels x.seen x.shown x.extremes x.driven x.switches
 
-    reset-halves : T (eqb (refusal_of Reset s) 0) → halves_in (reset_of s) ≡ halves_in (reset_of o)
+    reset-halves : T (is_none (refusal_of Reset s)) → halves_in (reset_of s) ≡ halves_in (reset_of o)
     unfolding reset_of reread_of
     reset-halves y = halves-tied R h (reset-tables g x (unreported y)) reset-loop x.basis
 
@@ -233,9 +239,9 @@ module _ {t : List ℤ} (v : Valid t) (h : 0 < round_loop t) (c : ℕ) (multiple
     kept-live z =
         tied z x.basis x.levels x.seen x.reading x.shown x.extremes x.driven x.switches
 
-    command-tied : (a : Action) → Aimed a → eqb (refusal_of a o) 12 ≡ false → Left (command_of a s) (command_of a o)
+    command-tied : (a : Action) → Aimed a → eqb (note_number (refusal_of a o)) 12 ≡ false → Left (command_of a s) (command_of a o)
     unfolding command_of carried_out clear_locks_of extremes_at clear_extremes_of teach_of
-    command-tied a m n = rw (← same) (both (eqb (refusal_of a s) 0) _ _ _ _ Left (λ y. record { state = done a m y; note = refl }) (λ _. record { state = x; note = refl }))
+    command-tied a m n = rw (← same) (both (is_none (refusal_of a s)) _ _ _ _ Left (λ y. record { state = done a m y; note = refl }) (λ _. record { state = x; note = refl }))
       where
         same : refusal_of a s ≡ refusal_of a o
         same = refusal-tied k x a n
@@ -243,7 +249,7 @@ module _ {t : List ℤ} (v : Valid t) (h : 0 < round_loop t) (c : ℕ) (multiple
         r : ℤ
         r = s.live.reading.result
 
-        done : (a : Action) → Aimed a → T (eqb (refusal_of a s) 0) → Ties (carried_out a s) (carried_out a o)
+        done : (a : Action) → Aimed a → T (is_none (refusal_of a s)) → Ties (carried_out a s) (carried_out a o)
         done None m y = x
         done Freeze m y = x
         done Reset m y = reset-tied y
@@ -256,17 +262,17 @@ module _ {t : List ℤ} (v : Valid t) (h : 0 < round_loop t) (c : ℕ) (multiple
             (subst (λ (z : ℤ). Tables R (with_preselection s.table j r) (with_preselection o.table j z)) (ap (λ (z : Reading). z.result) x.reading)
             (taught g.table.long x.tables j r m))
 
-    marks-tied : (a : Action) (marks : ℕ) → eqb (refusal_of a o) 12 ≡ false → marks_after a s marks ≡ marks_after a o marks
+    marks-tied : (a : Action) (marks : ℕ) → eqb (note_number (refusal_of a o)) 12 ≡ false → marks_after a s marks ≡ marks_after a o marks
     unfolding marks_after
     marks-tied a marks n = rw (← refusal-tied k x a n) (go a)
       where
-        go : (a : Action) → cond (is_reset a && eqb (refusal_of a s) 0) (halves_in (reset_of s)) marks ≡ cond (is_reset a && eqb (refusal_of a s) 0) (halves_in (reset_of o)) marks
+        go : (a : Action) → cond (is_reset a && is_none (refusal_of a s)) (halves_in (reset_of s)) marks ≡ cond (is_reset a && is_none (refusal_of a s)) (halves_in (reset_of o)) marks
         go None = refl
         go Freeze = refl
         go ClearLocks = refl
         go ClearExtremes = refl
         go (Teach j) = refl
-        go Reset = both (eqb (refusal_of Reset s) 0) (halves_in (reset_of s)) marks (halves_in (reset_of o)) marks (λ (m n : ℕ). m ≡ n) reset-halves (λ _. refl)
+        go Reset = both (is_none (refusal_of Reset s)) (halves_in (reset_of s)) marks (halves_in (reset_of o)) marks (λ (m n : ℕ). m ≡ n) reset-halves (λ _. refl)
 
   -- ---- an input, and the three of them
 
@@ -282,7 +288,7 @@ module _ {t : List ℤ} (v : Valid t) (h : 0 < round_loop t) (c : ℕ) (multiple
     action-tied = rw (inputs-tied z.state.tables i small)
 
     -- where it acts, 12 refuses it in neither
-    unbarred : T (edge_at y.state l i) → eqb (refusal_of (input_at table i).action y.state) 12 ≡ false
+    unbarred : T (edge_at y.state l i) → eqb (note_number (refusal_of (input_at table i).action y.state)) 12 ≡ false
     unfolding barred_at
     unbarred e = rw action-tied (and_second (edge_at y.state l i) _ n (is_true (edge_at y.state l i) e))
 
@@ -301,20 +307,20 @@ module _ {t : List ℤ} (v : Valid t) (h : 0 < round_loop t) (c : ℕ) (multiple
         (both (edge_at y.state l i) _ marks _ marks (λ (m n : ℕ). m ≡ n) (λ e. marks-tied g k z.state (input_at table i).action marks (unbarred e)) (λ _. refl))
 
   module _ (s o : State) (l : ℕ) (g : Good s) (k : Kept t s) (x : Ties s o)
-      (n₀ : barred_at l 0 (acted o 0) ≡ false)
-      (n₁ : barred_at l 1 (input_of l 0 (acted o 0)) ≡ false)
-      (n₂ : barred_at l 2 (input_of l 1 (input_of l 0 (acted o 0))) ≡ false) where
+      (n₀ : barred_at l 0 (acted o no_note) ≡ false)
+      (n₁ : barred_at l 1 (input_of l 0 (acted o no_note)) ≡ false)
+      (n₂ : barred_at l 2 (input_of l 1 (input_of l 0 (acted o no_note))) ≡ false) where
     abbrev x₁ : Acted
-    x₁ = input_of l 0 (acted s 0)
+    x₁ = input_of l 0 (acted s no_note)
 
     abbrev y₁ : Acted
-    y₁ = input_of l 0 (acted o 0)
+    y₁ = input_of l 0 (acted o no_note)
 
     g₁ : Good x₁.state
-    g₁ = good-input l 0 (acted s 0) g
+    g₁ = good-input l 0 (acted s no_note) g
 
     k₁ : Kept t x₁.state
-    k₁ = kept-input t l 0 (acted s 0) k
+    k₁ = kept-input t l 0 (acted s no_note) k
 
     g₂ : Good (input_of l 1 x₁).state
     g₂ = good-input l 1 x₁ g₁
@@ -322,11 +328,11 @@ module _ {t : List ℤ} (v : Valid t) (h : 0 < round_loop t) (c : ℕ) (multiple
     k₂ : Kept t (input_of l 1 x₁).state
     k₂ = kept-input t l 1 x₁ k₁
 
-    z₀ : Left (acted s 0) (acted o 0)
+    z₀ : Left (acted s no_note) (acted o no_note)
     z₀ = record { state = x; note = refl }
 
     z₁ : Left x₁ y₁
-    z₁ = input-tied l 0 (omega arith) (acted s 0) (acted o 0) g k z₀ n₀
+    z₁ = input-tied l 0 (omega arith) (acted s no_note) (acted o no_note) g k z₀ n₀
 
     z₂ : Left (input_of l 1 x₁) (input_of l 1 y₁)
     z₂ = input-tied l 1 (omega arith) x₁ y₁ g₁ k₁ z₁ n₁
@@ -338,7 +344,7 @@ module _ {t : List ℤ} (v : Valid t) (h : 0 < round_loop t) (c : ℕ) (multiple
     marks-left : marks_left s l ≡ marks_left o l
     unfolding marks_left
     marks-left =
-        rw (marks-at l 0 (omega arith) (acted s 0) (acted o 0) g k z₀ n₀ no_halves, marks-at l 1 (omega arith) x₁ y₁ g₁ k₁ z₁ n₁ _)
+        rw (marks-at l 0 (omega arith) (acted s no_note) (acted o no_note) g k z₀ n₀ no_halves, marks-at l 1 (omega arith) x₁ y₁ g₁ k₁ z₁ n₁ _)
         (marks-at l 2 (omega arith) (input_of l 1 x₁) (input_of l 1 y₁) g₂ k₂ z₂ n₂ _)
 
   -- ---- an event, and a run
@@ -348,9 +354,9 @@ module _ {t : List ℤ} (v : Valid t) (h : 0 < round_loop t) (c : ℕ) (multiple
     same : Same a b
     state : Ties a.state b.state
 
-  stepped : {s o : State} → Ties s o → (note note' halves halves' : ℕ) → note ≡ note' → halves ≡ halves' → Stepped (answer_of s note halves) (answer_of o note' halves')
+  stepped : {s o : State} → Ties s o → (n n' : Option Refusal) (halves halves' : ℕ) → n ≡ n' → halves ≡ halves' → Stepped (answer_of s n halves) (answer_of o n' halves')
   unfolding answer_of
-  stepped x note note' halves halves' e f = record { same = answer-tied x note note' halves halves' e f; state = x }
+  stepped x n n' halves halves' e f = record { same = answer-tied x n n' halves halves' e f; state = x }
 
   levels-set : {s o : State} → Ties s o → (l : ℕ) → Ties (with_levels s l) (with_levels o l)
   levels-set x l =
@@ -365,16 +371,16 @@ module _ {t : List ℤ} (v : Valid t) (h : 0 < round_loop t) (c : ℕ) (multiple
   step-tied s o g k x (Telegram w) n =
       rw (accepts-alike x.tables.alike stored-layout w)
       (both (accepts_of o.table w) _ _ _ _ Stepped
-      (λ _. stepped (ended-tied (received-tied k x w)) 0 0 _ _ refl (received-halves k x w)) (λ _. stepped x 11 11 no_halves no_halves refl refl))
+      (λ _. stepped (ended-tied (received-tied k x w)) no_note no_note _ _ refl (received-halves k x w)) (λ _. stepped x (Some BitAbove) (Some BitAbove) no_halves no_halves refl refl))
   step-tied s o g k x (Levels l) n =
       both (leb l 7) _ _ _ _ Stepped
       (λ y. let m = and_second (leb l 7) _ n (is_true (leb l 7) y) in
-      let m₁ = or-both (barred_at l 0 (acted o 0)) _ m in
-      let m₂ = or-both (barred_at l 1 (input_of l 0 (acted o 0))) _ m₁.1 in
+      let m₁ = or-both (barred_at l 0 (acted o no_note)) _ m in
+      let m₂ = or-both (barred_at l 1 (input_of l 0 (acted o no_note))) _ m₁.1 in
       let z = commands-tied s o l g k x m₁.0 m₂.0 m₂.1 in
       stepped (ended-tied (levels-set z.state l)) _ _ _ _ z.note (marks-left s o l g k x m₁.0 m₂.0 m₂.1))
-      (λ _. stepped x 10 10 no_halves no_halves refl refl)
-  step-tied s o g k x (Tick ms) n = stepped (recorded-tied (ticked x ms)) 0 0 no_halves no_halves refl refl
+      (λ _. stepped x (Some LevelsAbove) (Some LevelsAbove) no_halves no_halves refl refl)
+  step-tied s o g k x (Tick ms) n = stepped (recorded-tied (ticked x ms)) no_note no_note no_halves no_halves refl refl
 
   run-tied : (s o : State) → Good s → Kept t s → Ties s o → (es : List Event) → barred_in old_step o es ≡ false → AllSame (answers_of s es) (old_answers o es)
   unfolding answers_of old_answers some_event AllSame

@@ -1,5 +1,5 @@
 -- With a round loop the count stays below R in every state of a run, so 12 never refuses a reset. Paper 02, K4.
-use Rattle.std.specs.Prelude.{◌≡◌, Bool, true, false, not, ◌&&◌, ◌||◌, ℕ, ◌≤◌, ◌<◌, eqb, leb, ℤ}
+use Rattle.std.specs.Prelude.{Option, Some, None, is_none, ◌≡◌, Bool, true, false, not, ◌&&◌, ◌||◌, ℕ, ◌≤◌, ◌<◌, eqb, leb, ℤ}
 use Rattle.std.proofs.Math.Path.{refl}
 use mathlib.Core.List.{List, [], ◌∷◌}
 use Rattle.std.proofs.Common.{arith, le-ltb}
@@ -7,7 +7,7 @@ use Rattle.events.specs.declared.Event.{Event}
 use Rattle.events.specs.declared.Event.TheVariants.{Telegram, Levels, Tick}
 use Rattle.inputs.specs.Commands.{Acted, acted, reset_refusal, reset_of, clear_locks_of, clear_extremes_of, teach_refusal, teach_of, refusal_of, command_of}
 use Rattle.inputs.proofs.CommandLaws.{by-command, by-input, input-aimed}
-use Rattle.inputs.specs.Levels.{edge_at, input_acts, input_of, commands_of}
+use Rattle.inputs.specs.Levels.{edge_at, first_note, input_acts, input_of, commands_of}
 use Rattle.integers.specs.ChoiceLaws.{by-test}
 use Rattle.integers.specs.Limit.{Z}
 use Rattle.panel.specs.declared.Answer.{Answer}
@@ -24,9 +24,13 @@ use Rattle.reading.specs.Reading.{accepts_of}
 use Rattle.runs.specs.KeptLaws.{Kept, kept_fresh, kept_step}
 use Rattle.runs.specs.Run.{answers_of, some_command, some_event}
 use Rattle.settings.specs.declared.Action.{Action}
-use Rattle.settings.specs.declared.Action.TheVariants.{None, Reset, Freeze, ClearLocks, ClearExtremes, Teach}
+use Rattle.settings.specs.declared.Action.TheVariants as Action
+use Rattle.settings.specs.declared.Action.TheVariants.{Reset, Freeze, ClearLocks, ClearExtremes, Teach}
 use Rattle.settings.specs.Settings.{input_at}
+use Rattle.state.specs.declared.Refusal.{Refusal}
+use Rattle.state.specs.declared.Refusal.TheVariants.{NothingToTake}
 use Rattle.state.specs.declared.State.{State}
+use Rattle.state.specs.Refusal.{no_note, note_number}
 use Rattle.state.specs.State.{fresh_of, error_of, reread_of, received_of}
 use Rattle.turntable.specs.Turntable.{noted, NeverTwelve, barred_at, barred_by, barred_in}
 
@@ -48,15 +52,15 @@ module _ {t : List ℤ} (h : 0 < round_loop t) where
   under-step {s} k u e =
       by-step s e (Under (round_loop t)) u
       (λ w. rw (basis-alike k.alike stored-layout stored-scaling s.live.basis w) (start-below t h s.live.basis w u))
-      (λ l. let x₁ = input_of l 0 (acted s 0) in
-      let u₁ = under-input (round_loop t) l 0 (acted s 0) u in
+      (λ l. let x₁ = input_of l 0 (acted s no_note) in
+      let u₁ = under-input (round_loop t) l 0 (acted s no_note) u in
       under-input (round_loop t) l 2 (input_of l 1 x₁) (under-input (round_loop t) l 1 x₁ u₁))
       (λ ms. u)
 
 -- ---- 12 asks for a number above Z
 
-abbrev Not12 : ℕ → Type 0
-Not12 n = eqb n 12 ≡ false
+abbrev Not12 : Option Refusal → Type 0
+Not12 n = eqb (note_number n) 12 ≡ false
 
 -- what a state's result starts from is up to Z
 abbrev UpToZ : State → Type 0
@@ -64,23 +68,27 @@ UpToZ s = s.live.basis.start ≤ Z
 
 refused-not : (a : Action) (s : State) → UpToZ s → Not12 (refusal_of a s)
 unfolding refusal_of reset_refusal teach_refusal
-refused-not None s u = refl
+refused-not Action.None s u = refl
 refused-not Freeze s u = refl
 refused-not ClearLocks s u = refl
 refused-not ClearExtremes s u = refl
 refused-not Reset s u =
-    by-test (not s.live.seen || eqb (error_of s) 3) 13 _ Not12 (λ _. refl) (λ _. rw (le-ltb Z s.live.basis.start u))
-refused-not (Teach k) s u = by-test (s.live.seen && eqb (error_of s) 0) 0 13 Not12 (λ _. refl) (λ _. refl)
+    by-test (not s.live.seen || eqb (error_of s) 3) (Some NothingToTake) _ Not12 (λ _. refl) (λ _. rw (le-ltb Z s.live.basis.start u))
+refused-not (Teach k) s u = by-test (s.live.seen && eqb (error_of s) 0) no_note (Some NothingToTake) Not12 (λ _. refl) (λ _. refl)
 
 command-not : (a : Action) (s : State) → UpToZ s → Not12 (command_of a s).note
 unfolding command_of
-command-not a s u = by-test (eqb (refusal_of a s) 0) _ _ (λ (x : Acted). Not12 x.note) (λ _. refl) (λ _. refused-not a s u)
+command-not a s u = by-test (is_none (refusal_of a s)) _ _ (λ (x : Acted). Not12 x.note) (λ _. refl) (λ _. refused-not a s u)
+
+first-not : (n m : Option Refusal) → Not12 n → Not12 m → Not12 (first_note n m)
+first-not None m p q = q
+first-not (Some r) m p q = p
 
 input-not : (l i : ℕ) (x : Acted) → UpToZ x.state → Not12 x.note → Not12 (input_of l i x).note
 unfolding input_of
 input-not l i x u n =
     by-test (edge_at x.state l i) (input_acts i x) x (λ (y : Acted). Not12 y.note)
-    (λ _. by-test (eqb x.note 0) _ x.note Not12 (λ _. command-not (input_at x.state.table i).action x.state u) (λ _. n)) (λ _. n)
+    (λ _. first-not x.note _ n (command-not (input_at x.state.table i).action x.state u)) (λ _. n)
 
 none_after : (a : Bool) → (a && false) ≡ false
 none_after true = refl
@@ -98,7 +106,7 @@ module _ {t : List ℤ} (v : Valid t) (h : 0 < round_loop t) where
 
   module _ (s : State) (l : ℕ) (u : Under (round_loop t) s) where
     abbrev x₀ : Acted
-    x₀ = acted s 0
+    x₀ = acted s no_note
 
     abbrev x₁ : Acted
     x₁ = input_of l 0 x₀

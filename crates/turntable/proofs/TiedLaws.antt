@@ -1,6 +1,6 @@
 -- Two states of a turntable's panel that tell the same: tables that differ in the offset alone, and there by a multiple of R; a count that is the other's position
 -- modulo R. Their distances are equal, so their readings and marks are, and what follows from them. For the theorem on the rule before K4. Assumes nothing.
-use Rattle.std.specs.Prelude.{◌≡◌, Bool, true, false, List, ℕ, ◌<◌, T, ℤ, pos, length}
+use Rattle.std.specs.Prelude.{Option, ◌≡◌, Bool, true, false, List, ℕ, ◌<◌, T, ℤ, pos, length}
 use Rattle.std.proofs.Math.Path.{refl, sym}
 use Rattle.std.proofs.Common.{ap, ◌∙◌, arith, ne_eqb}
 use Rattle.inputs.specs.Freeze.{frozen}
@@ -19,6 +19,7 @@ use Rattle.reading.specs.declared.Basis.{Basis}
 use Rattle.reading.specs.Reading.{measured_at, measurement_at, reading_of, no_halves, marks_of, halves_of}
 use Rattle.settings.specs.AlikeLaws.{points-alike, span-alike, input-alike, preselections-alike}
 use Rattle.settings.specs.Settings.{scaling_of, points_of, span_of, preselections_of, input_at}
+use Rattle.state.specs.declared.Refusal.{Refusal}
 use Rattle.state.specs.declared.State.{State}
 use Rattle.state.specs.State.{recorded_of, reread_of}
 use Rattle.turntable.specs.Turntable.{Same}
@@ -178,9 +179,9 @@ module _ {R : ℕ} {s o : State} (x : Tied R s o) where
   unfolding displayed_of switched_of
   settled-tied = tied x.tables x.basis x.levels x.seen x.reading shown-tied x.extremes x.driven switches-tied
 
-  pub answer-tied : (note note' halves halves' : ℕ) → note ≡ note' → halves ≡ halves' → Same (answer_of s note halves) (answer_of o note' halves')
+  pub answer-tied : (n n' : Option Refusal) (halves halves' : ℕ) → n ≡ n' → halves ≡ halves' → Same (answer_of s n halves) (answer_of o n' halves')
   unfolding answer_of
-  answer-tied note note' halves halves' e f =
+  answer-tied n n' halves halves' e f =
       record {
         result = rw x.reading;
         shown = x.shown;

@@ -20,6 +20,7 @@ use Rattle.runs.specs.Run.{answers_of}
 use Rattle.settings.specs.Settings as settings
 use Rattle.ssi.specs.Telegram as ssi
 use Rattle.state.specs.State as state
+use Rattle.state.specs.Refusal.{note_number}
 use Rattle.state.specs.State.{fresh_of}
 use Rattle.turntable.specs.OldRule.{old_received, old_telegram, old_step, old_answers}
 
@@ -46,7 +47,7 @@ gives r n = record { result = r; note = n }
 
 abbrev told : List Answer → List Given
 told [] = []
-told (a ∷ rest) = gives a.result a.note ∷ told rest
+told (a ∷ rest) = gives a.result (note_number a.note) ∷ told rest
 
 pub record Rules : Type 0 where
   pub new : List Given

@@ -21,6 +21,7 @@ use Rattle.runs.specs.Run.{run_of, answers_of, some_command, some_event}
 use Rattle.settings.specs.Settings.{layout_of, input_at}
 use Rattle.ssi.specs.Telegram.{error_reported, modulus}
 use Rattle.state.specs.declared.State.{State}
+use Rattle.state.specs.Refusal.{note_number}
 use Rattle.state.specs.State.{fresh_of}
 use Rattle.turntable.specs.OldRule.{old_step, old_answers}
 
@@ -68,7 +69,7 @@ AllTravelled = (t : List ℤ) → load_refusal t ≡ 0 → 0 < round_loop t → 
 
 -- input i + 1 is refused by 12, on what the earlier ones left; nothing but a reset ever is
 unfoldable pub barred_at : ℕ → ℕ → Acted → Bool
-barred_at l i x = edge_at x.state l i && eqb (refusal_of (input_at x.state.table i).action x.state) 12
+barred_at l i x = edge_at x.state l i && eqb (note_number (refusal_of (input_at x.state.table i).action x.state)) 12
 
 abbrev pub barred_by : State → Event → Bool
 barred_by s e = some_command barred_at s e
@@ -80,7 +81,7 @@ barred_in step s es = some_event barred_by step s es
 -- some answer has a note
 unfoldable pub noted : ℕ → List Answer → Bool
 noted n [] = false
-noted n (a ∷ rest) = eqb a.note n || noted n rest
+noted n (a ∷ rest) = eqb (note_number a.note) n || noted n rest
 
 -- no answer notes it, and no reset is refused by it behind a lower input's note either
 pub record NoTwelve (t : List ℤ) (es : List Event) : Type 0 where

@@ -1,7 +1,7 @@
 -- `inputs::carry_out` meets its contract: each arm of the match is a clause of the definition, and the reset's alone brings marks.
-use borrow.Author.Tests.{eq-eqb}
 use mathlib.Core.Path.{ap}
 use Rattle.state.specs.declared.State.{State}
+use Rattle.state.specs.Refusal.{no_note}
 use Rattle.inputs.specs.Commands.{acted, clear_locks_of, clear_extremes_of, carried_out, marks_after}
 use Rattle.inputs.proofs.CommandLaws.{reset-allowed}
 use Rattle.inputs.proofs.carry_out.Goals as goal
@@ -30,7 +30,7 @@ returns-in-Reset c = let b = c in
     let done = rw told at b.requires.1.1 in
     record {
       is = rw told c.reset.ensures.is;
-      marks = rw (told, eq-eqb _ _ done) c.reset.ensures.marks;
+      marks = rw (told, done) c.reset.ensures.marks;
     }
 
 pub returns-in-Freeze : goal.returns-in-Freeze
@@ -64,6 +64,6 @@ unfolding carried_out marks_after
 returns-in-Teach c = let x = c in
     let told = x.in-Teach.is in
     record {
-      is = rw (told, c.kept-in-Teach.ensures) (ap (λ (s : State). acted s 0) x.teach.ensures);
+      is = rw (told, c.kept-in-Teach.ensures) (ap (λ (s : State). acted s no_note) x.teach.ensures);
       marks = rw (told, c.kept-in-Teach.ensures);
     }

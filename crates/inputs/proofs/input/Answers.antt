@@ -12,6 +12,6 @@ returns c = let b = c in
     let a = b.action_at-a.ensures in
     let is = rw a at b.command-y.ensures.is in
     record {
-      is = rw (c.first_note-note.ensures, ← is);
+      is = rw (c.or-note.ensures, ← is);
       marks = rw a at b.command-y.ensures.marks;
     }

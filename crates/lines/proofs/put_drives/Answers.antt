@@ -21,4 +21,4 @@ returns c = let r = c.args.o.live.reading in
     let e = back_at w32 r.code c.struct_told-1.given.1.1.0.1 in
     let p1 = rw c.outputs.ensures at c.put_outs-p1.ensures in
     let p2 = rw e at c.put_analog-p2.ensures in
-    put_both (put_both p1 p2 (omega arith)) c.put_natural.ensures (simp length-append (omega (arith, analog-at-most-19 r.drive r.code)))
+    put_both (put_both p1 p2 (omega arith)) (rw c.note_number.ensures at c.put_natural.ensures) (simp length-append (omega (arith, analog-at-most-19 r.drive r.code)))

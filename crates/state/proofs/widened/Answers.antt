@@ -11,22 +11,29 @@ pub returns-then-error_in-ne0 : goal.returns-then-error_in-ne0
 unfolding widened_of
 returns-then-error_in-ne0 c = rw (ne_eqb _ _ (λ z. c.if-error_in-ne0.true (c.error_in.ensures ∙ z)))
 
-pub returns-then-x : goal.returns-then-x
+pub returns-in-None : goal.returns-in-None
 unfolding widened_of
-returns-then-x c = let l = c.lower in
-    let h = c.higher in
-    let b = c in
-    let s = b in
-    let x = s.args.x in
-    let r = s.args.r in
+returns-in-None c = let r = c.args.r in
     let er : bk w32 r.result ≡ r.result = search rules in
-    let el : bk w32 x.least ≡ x.least = search rules in
-    let eg : bk w32 x.greatest ≡ x.greatest = search rules in
-    rw (eq-eqb _ _ (sym b.error_in.ensures ∙ b.if-error_in-ne0.false), b.if-x.true, back_at w32 l.result l.type_inv, back_at w32 h.result h.type_inv, l.ensures, h.ensures, er, el, eg)
+    rw (eq-eqb _ _ (sym c.error_in.ensures ∙ c.if-error_in-ne0.false), c.in-None.is, er)
 
-pub returns : goal.returns
+pub returns-in-Some : goal.returns-in-Some
 unfolding widened_of
-returns c = let b = c in
-    let r = b.args.r in
+returns-in-Some c = let l = c.lower in
+    let h = c.higher in
+    let e = c.in-Some.e in
+    let r = c.args.r in
     let er : bk w32 r.result ≡ r.result = search rules in
-    rw (eq-eqb _ _ (sym b.error_in.ensures ∙ b.if-error_in-ne0.false), b.if-x.false, er)
+    let el : bk w32 e.least ≡ e.least = search rules in
+    let eg : bk w32 e.greatest ≡ e.greatest = search rules in
+    rw (
+      eq-eqb _ _ (sym c.error_in.ensures ∙ c.if-error_in-ne0.false),
+      c.in-Some.is,
+      back_at w32 l.result l.type_inv,
+      back_at w32 h.result h.type_inv,
+      l.ensures,
+      h.ensures,
+      er,
+      el,
+      eg,
+    )

@@ -1,9 +1,0 @@
--- `inputs::first_note` meets its contract by its test.
-use borrow.Author.Tests.{eq-eqb, ne_eqb}
-use Rattle.inputs.proofs.first_note.Goals as goal
-
-pub returns-then-n-eq0 : goal.returns-then-n-eq0
-returns-then-n-eq0 c = rw (eq-eqb _ _ c.if-n-eq0.true)
-
-pub returns : goal.returns
-returns c = rw (ne_eqb _ _ c.if-n-eq0.false)
