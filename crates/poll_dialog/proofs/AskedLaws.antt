@@ -13,16 +13,17 @@ use Rattle.script.specs.Commands.{natural_by, natural_in, natural_of, longest, h
 use Rattle.script.proofs.PlainLaws.{first_byte, small}
 use Rattle.script.specs.Table.{named_in}
 use Rattle.poll_dialog.specs.declared.asked.Asked.TheVariants.{Wrong, Join, Report, Pick}
-use Rattle.poll_dialog.specs.Asked.{too_long, last_address, join_in, report_in, pick_in, join_word, report_word, pick_word, named_of, meaning_of, asked_of}
+use Rattle.poll_dialog.specs.declared.asked.Reason.TheVariants.{TooLong}
+use Rattle.poll_dialog.specs.Asked.{last_address, join_in, report_in, pick_in, join_word, report_word, pick_word, named_of, meaning_of, asked_of}
 
 -- ---- a line that is cut
-long-wrong : (s : List ℕ) → most ≤ length s → asked_of s ≡ Wrong too_long
+long-wrong : (s : List ℕ) → most ≤ length s → asked_of s ≡ Wrong TooLong
 unfolding asked_of
 long-wrong s h = let t = trimmed_of s in rw (lt-ltb longest (length t) (omega (arith, trimmed-length s)))
 
 -- A LINE ASKS FOR THE SAME WHEN IT IS CUT BEHIND THE MOST BYTES THAT ARE HELD
 pub cut-alike : (line : List ℕ) → asked_of (take most line) ≡ asked_of line
-cut-alike = cut_by asked_of (Wrong too_long) long-wrong
+cut-alike = cut_by asked_of (Wrong TooLong) long-wrong
 
 -- ---- a line of plain words
 -- it asks for what its first word makes of the others, where it is no remark and not too long

@@ -1,30 +1,13 @@
 -- What a line of poller asks for: `asked_of`. Paper 02, K12, poller. `script` has the words of a console; a line is read here as it is there.
 -- Main properties (AskedLaws): a command written in its plain form is read back; a line asks for the same when it is cut.
--- A WORD IS ADDED by its reason and its message, its `..In` below, its bytes, and its line of `table`.
-use Rattle.std.specs.Prelude.{cond, List, [], ◌∷◌, ℕ, eqb, ltb, length, get_or}
+-- A WORD IS ADDED by its reason (in `src/asked.rt`) and its message, its `..In` below, its bytes, and its line of `table`.
+use Rattle.std.specs.Prelude.{cond, List, [], ◌∷◌, ℕ, eqb, ltb, length, get_or, Option, Some, None}
 use Rattle.text.specs.Words.{trimmed_of, words_of, only_of, first_of, others_of}
-use Rattle.script.specs.declared.Numeral.{Numeral}
-use Rattle.script.specs.declared.Numeral.TheVariants.{Count, Missing}
 use Rattle.script.specs.Table.{Entry, named_in}
 use Rattle.script.specs.Commands.{natural_of, longest, hash}
+use Rattle.poll_dialog.specs.declared.asked.Reason.TheVariants.{TooLong, NoSuchWord, BadJoin, BadReport, BadPick}
 use Rattle.poll_dialog.specs.declared.asked.Asked.{Asked}
 use Rattle.poll_dialog.specs.declared.asked.Asked.TheVariants.{Blank, Wrong, Join, Report, Pick}
-
--- ---- why a line is no command: its length, its first word, or what stands behind that word
-abbrev pub too_long : ℕ
-too_long = 0
-
-abbrev pub no_such_word : ℕ
-no_such_word = 1
-
-abbrev pub bad_join : ℕ
-bad_join = 2
-
-abbrev pub bad_report : ℕ
-bad_report = 3
-
-abbrev pub bad_pick : ℕ
-bad_pick = 4
 
 -- ---- what stands behind the first word
 -- an address, registered or not: 0 to 65535
@@ -32,18 +15,18 @@ abbrev pub last_address : ℕ
 last_address = 65535
 
 -- `join A`
-abbrev pub join_by : Numeral → Asked
-join_by (Count a) = Join a
-join_by Missing = Wrong bad_join
+abbrev pub join_by : Option ℕ → Asked
+join_by (Some a) = Join a
+join_by None = Wrong BadJoin
 
 unfoldable pub join_in : List (List ℕ) → Asked
 join_in ws = join_by (natural_of last_address (only_of ws))
 
 -- `report A E`: E is 0 or 1, 1 for an error
-abbrev pub report_by : Numeral → Numeral → Asked
-report_by (Count a) (Count e) = Report a (eqb e 1)
-report_by (Count a) Missing = Wrong bad_report
-report_by Missing e = Wrong bad_report
+abbrev pub report_by : Option ℕ → Option ℕ → Asked
+report_by (Some a) (Some e) = Report a (eqb e 1)
+report_by (Some a) None = Wrong BadReport
+report_by None e = Wrong BadReport
 
 unfoldable pub report_in : List (List ℕ) → Asked
 report_in ws = report_by (natural_of last_address (first_of ws)) (natural_of 1 (only_of (others_of ws)))
@@ -51,7 +34,7 @@ report_in ws = report_by (natural_of last_address (first_of ws)) (natural_of 1 (
 -- `pick`
 unfoldable pub pick_in : List (List ℕ) → Asked
 pick_in [] = Pick
-pick_in (w ∷ ws) = Wrong bad_pick
+pick_in (w ∷ ws) = Wrong BadPick
 
 -- ---- a line
 -- the words that lines begin with: join, report, pick
@@ -69,7 +52,7 @@ abbrev pub table : List (Entry Asked)
 table = (join_word, join_in) ∷ (report_word, report_in) ∷ (pick_word, pick_in) ∷ []
 
 abbrev pub named_of : List ℕ → List (List ℕ) → Asked
-named_of w ws = named_in (Wrong no_such_word) table w ws
+named_of w ws = named_in (Wrong NoSuchWord) table w ws
 
 unfoldable pub meaning_of : List (List ℕ) → Asked
 meaning_of [] = Blank
@@ -77,7 +60,7 @@ meaning_of (w ∷ ws) = named_of w ws
 
 -- what a line asks for that has no carriage return at its end: `longest` is 1,024 bytes, of a remark too
 abbrev pub meant_of : List ℕ → Asked
-meant_of line = cond (ltb longest (length line)) (Wrong too_long) (cond (eqb (get_or line 0 0) hash) Blank (meaning_of (words_of line)))
+meant_of line = cond (ltb longest (length line)) (Wrong TooLong) (cond (eqb (get_or line 0 0) hash) Blank (meaning_of (words_of line)))
 
 -- WHAT A LINE ASKS FOR: the line comes without its newline
 unfoldable pub asked_of : List ℕ → Asked

@@ -4,7 +4,6 @@ ghost use Rattle.std.specs.Prelude.{◌≡◌};
 ghost use Rattle.text.specs.Words.{words_of};
 ghost use Rattle.poll_dialog.specs.Asked.{join_in, report_in, pick_in, named_of, asked_of};
 
-use script::Numeral;
 use text::words;
 
 // The most bytes that a line has, its carriage return not counted.
@@ -14,23 +13,22 @@ const LONGEST: usize = 1024;
 const LAST_ADDRESS: u32 = 65535;
 
 // Why a line is no command: its length, its first word, or what stands behind that word.
-const TOO_LONG: u8 = 0;
-
-const NO_SUCH_WORD: u8 = 1;
-
-const BAD_JOIN: u8 = 2;
-
-const BAD_REPORT: u8 = 3;
-
-const BAD_PICK: u8 = 4;
+#[derive(Clone, Copy)]
+pub(crate) enum Reason {
+    TooLong,
+    NoSuchWord,
+    BadJoin,
+    BadReport,
+    BadPick,
+}
 
 // What a line asks for.
 #[derive(Clone, Copy)]
 pub(crate) enum Asked {
     // Nothing: no word, or a remark.
     Blank,
-    // It is no command; the number is the reason, whose message `messages` has.
-    Wrong(u8),
+    // It is no command; `messages` has the message of the reason.
+    Wrong(Reason),
     // A panel at this address joins the line.
     Join(u32),
     // The panel at this address reports, true for an error.
@@ -40,13 +38,13 @@ pub(crate) enum Asked {
 }
 
 // What `join` and these words ask for.
+#[tactic(auto, unfolding(crate::specs::Asked::join_in))]
 fn join(s: &[u8]) -> Asked
     ensures { result ≡ join_in (words_of s.now) }
 {
-    let n = script::natural(words::only(s), LAST_ADDRESS);
-    match n {
-        Numeral::Count(a) => Asked::Join(a),
-        Numeral::Missing => Asked::Wrong(BAD_JOIN),
+    match script::natural(words::only(s), LAST_ADDRESS) {
+        Some(a) => Asked::Join(a),
+        None => Asked::Wrong(Reason::BadJoin),
     }
 }
 
@@ -56,12 +54,9 @@ fn report(s: &[u8]) -> Asked
 {
     let n = script::natural(words::word(s), LAST_ADDRESS);
     let v = script::natural(words::only(words::rest(s)), 1);
-    match n {
-        Numeral::Count(a) => match v {
-            Numeral::Count(e) => Asked::Report(a, e == 1),
-            Numeral::Missing => Asked::Wrong(BAD_REPORT),
-        },
-        Numeral::Missing => Asked::Wrong(BAD_REPORT),
+    match (n, v) {
+        (Some(a), Some(e)) => Asked::Report(a, e == 1),
+        _ => Asked::Wrong(Reason::BadReport),
     }
 }
 
@@ -73,7 +68,7 @@ fn pick(s: &[u8]) -> Asked
     if extra.len() == 0 {
         return Asked::Pick;
     }
-    Asked::Wrong(BAD_PICK)
+    Asked::Wrong(Reason::BadPick)
 }
 
 // The table of words: what a first word and what stands behind it ask for.
@@ -89,7 +84,7 @@ fn named(w: &[u8], s: &[u8]) -> Asked
     if words::same(w, b"pick") {
         return pick(s);
     }
-    Asked::Wrong(NO_SUCH_WORD)
+    Asked::Wrong(Reason::NoSuchWord)
 }
 
 // What a line asks for. The line comes without its newline; a carriage return at its end is taken off.
@@ -98,7 +93,7 @@ pub(crate) fn read(line: &[u8]) -> Asked
 {
     let t = words::trimmed(line);
     if LONGEST < t.len() {
-        return Asked::Wrong(TOO_LONG);
+        return Asked::Wrong(Reason::TooLong);
     }
     if t.len() == 0 {
         return Asked::Blank;

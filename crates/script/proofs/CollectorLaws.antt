@@ -7,7 +7,8 @@ use Rattle.std.proofs.lemmas.Bool.{eqb-false, not-true}
 use Rattle.decimal.specs.DigitLaws.{both_true}
 use Rattle.text.specs.Marks.{newline, carriage_return}
 use Rattle.text.specs.Words.{trimmed_of, words_of}
-use Rattle.script.specs.Commands.{limit_of, too_long, command_of}
+use Rattle.script.specs.declared.Reason.TheVariants.{TooLong}
+use Rattle.script.specs.Commands.{limit_of, command_of}
 use Rattle.script.proofs.LimitLaws.{limit-most}
 use Rattle.script.specs.declared.Command.{Command}
 use Rattle.script.specs.declared.Command.TheVariants.{Wrong}
@@ -52,7 +53,7 @@ trimmed-length s = by (eqb (get_or s (length s - 1) 0) carriage_return)
     by true = omega (arith, length-take-le (length s - 1) s (omega arith))
     by false = omega arith
 
-long-wrong : (s : List ℕ) → most ≤ length s → command_of s ≡ Wrong too_long
+long-wrong : (s : List ℕ) → most ≤ length s → command_of s ≡ Wrong TooLong
 unfolding command_of
 long-wrong s h =
     let t = trimmed_of s in
@@ -70,10 +71,10 @@ cut_by f long alike p = by (ltb most (length p)) refl
 
 -- A LINE MEANS THE SAME WHEN IT IS CUT BEHIND THE MOST BYTES THAT ARE HELD
 pub cut-alike : (p : List ℕ) → command_of (take most p) ≡ command_of p
-cut-alike = cut_by command_of (Wrong too_long) long-wrong
+cut-alike = cut_by command_of (Wrong TooLong) long-wrong
 
 -- a line that is not too long is not cut, so that its frame's bytes or its burst's telegrams are all there
-pub cut-whole : (p : List ℕ) → (command_of p ≡ Wrong too_long → ⊥) → take most p ≡ p
+pub cut-whole : (p : List ℕ) → (command_of p ≡ Wrong TooLong → ⊥) → take most p ≡ p
 cut-whole p n = by (ltb most (length p)) refl
   where
     by : (t : Bool) → ltb most (length p) ≡ t → take most p ≡ p

@@ -25,8 +25,6 @@ use Rattle.parameters.specs.Rows.{default_table}
 use Rattle.parameters.specs.Slots.{with_word}
 use Rattle.script.specs.declared.Command.{Command}
 use Rattle.script.specs.declared.Command.TheVariants.{Blank, Wrong, Node, Slot, Start, Halves, Record, Telegram, Burst, Levels, Tick, Frame}
-use Rattle.script.specs.declared.Numeral.{Numeral}
-use Rattle.script.specs.declared.Numeral.TheVariants.{Count, Missing}
 use Rattle.script.specs.Commands.{longest, command_of, frame_of, natural_of}
 use Rattle.settings.specs.Settings.{layout_of}
 use Rattle.ssi.specs.declared.Built.{Built}
@@ -143,28 +141,28 @@ question_text t Read n = read_text t n
 question_text t Diagnose n = diagnose_text t n
 
 -- `build P`, `fault P`, `read T`, `diagnose T`, of the table in force
-abbrev pub number_behind : List ℕ → Numeral
+abbrev pub number_behind : List ℕ → Option ℕ
 number_behind line = natural_of (2 ^ 32 - 1) (only_of (words_behind line))
 
-abbrev pub answer_text : Sheet → Question → Numeral → List ℕ
-answer_text s q (Count n) = question_text s.progress.state.table q n
-answer_text s q Missing = wrong_line
+abbrev pub answer_text : Sheet → Question → Option ℕ → List ℕ
+answer_text s q (Some n) = question_text s.progress.state.table q n
+answer_text s q None = wrong_line
 
 unfoldable pub asked_text : Sheet → Question → List ℕ → List ℕ
 asked_text s q line = answer_text s q (number_behind line)
 
 -- ---- `cut N`
 
-abbrev pub given_by : Sheet → Numeral → Sheet
-given_by s (Count n) = with_given s n
-given_by s Missing = s
+abbrev pub given_by : Sheet → Option ℕ → Sheet
+given_by s (Some n) = with_given s n
+given_by s None = s
 
 unfoldable pub after_cut : Sheet → List ℕ → Sheet
 after_cut s line = given_by s (number_behind line)
 
-abbrev pub told_by : Numeral → List ℕ
-told_by (Count n) = []
-told_by Missing = wrong_line
+abbrev pub told_by : Option ℕ → List ℕ
+told_by (Some n) = []
+told_by None = wrong_line
 
 unfoldable pub cut_text : List ℕ → List ℕ
 cut_text line = told_by (number_behind line)

@@ -31,8 +31,6 @@ use Rattle.panel.specs.Step.{answer_of, answer_by, step_of}
 use Rattle.parameters.proofs.ValidLaws.{load-valid}
 use Rattle.script.specs.declared.Command.{Command}
 use Rattle.script.specs.declared.Command.TheVariants.{Blank, Wrong, Node, Slot, Start, Halves, Record, Telegram, Burst, Levels, Tick, Frame}
-use Rattle.script.specs.declared.Numeral.{Numeral}
-use Rattle.script.specs.declared.Numeral.TheVariants.{Count, Missing}
 use Rattle.script.specs.Commands.{longest, command_of, frame_of}
 use Rattle.script.proofs.FrameLaws.{frame-fits}
 use Rattle.settings.specs.Settings.{layout_of}
@@ -65,9 +63,9 @@ ready-start : (s : Sheet) → Ready (after_start s).progress
 unfolding after_start loaded_of
 ready-start s = record { state = good-fresh (load-valid (table_of (take s.given (bytes_of (map bits_of s.table))))); count = omega arith }
 
-ready-cut : (s : Sheet) (n : Numeral) → Ready s.progress → Ready (given_by s n).progress
-ready-cut s (Count n) r = r
-ready-cut s Missing r = r
+ready-cut : (s : Sheet) (n : Option ℕ) → Ready s.progress → Ready (given_by s n).progress
+ready-cut s (Some n) r = r
+ready-cut s None r = r
 
 ready-plain : (s : Sheet) (c : Command) → Ready s.progress → Ready (after_plain s c).progress
 unfolding after_plain
@@ -133,13 +131,13 @@ question-most t Fault n = rw length-append (omega (arith, numbers-most n (built_
 question-most t Read n = let r = content_of (layout_of t) n in rw length-append (omega (arith, numbers-most r.refusal r.position (bool_byte r.error)))
 question-most t Diagnose n = let d = diagnosed_of t n in rw length-append (omega (arith, numbers-most d.refusal d.turns d.place))
 
-answer-most : (s : Sheet) (q : Question) (n : Numeral) → length (answer_text s q n) ≤ room
-answer-most s q (Count n) = question-most s.progress.state.table q n
-answer-most s q Missing = omega arith
+answer-most : (s : Sheet) (q : Question) (n : Option ℕ) → length (answer_text s q n) ≤ room
+answer-most s q (Some n) = question-most s.progress.state.table q n
+answer-most s q None = omega arith
 
-told-most : (n : Numeral) → length (told_by n) ≤ room
-told-most (Count n) = omega arith
-told-most Missing = omega arith
+told-most : (n : Option ℕ) → length (told_by n) ≤ room
+told-most (Some n) = omega arith
+told-most None = omega arith
 
 extremes-most : (x : Option LeastAndGreatest) → length (extremes_text x) ≤ room
 unfolding extremes_numbers extremes_text

@@ -22,7 +22,7 @@ use events::Event;
 use log_words::{is_log, put_log, put_table};
 use logrun::{Opened, Progress};
 use orders::{Question, Word};
-use script::{Command, Numeral, frames};
+use script::{Command, frames};
 use state::{Extremes, State};
 use text::words;
 
@@ -290,11 +290,11 @@ fn asked(s: Sheet, q: Question, line: &[u8], out: &mut [u8]) -> usize
 {
     let n = script::natural(words::only(words::rest(line)), 4294967295);
     match n {
-        Numeral::Count(k) => {
+        Some(k) => {
             let table = in_force(s);
             answer(&table, q, k, out)
         }
-        Numeral::Missing => wrong(out),
+        None => wrong(out),
     }
 }
 
@@ -318,11 +318,11 @@ fn cut(s: Sheet, line: &[u8], out: &mut [u8]) -> Said
 {
     let n = script::natural(words::only(words::rest(line)), 4294967295);
     match n {
-        Numeral::Count(k) => Said {
+        Some(k) => Said {
             sheet: with_given(s, k as usize),
             end: 0,
         },
-        Numeral::Missing => Said {
+        None => Said {
             sheet: s,
             end: wrong(out),
         },

@@ -9,20 +9,20 @@ use Rattle.sheet.proofs.asked.Goals as goal
 pub answer-requires : goal.answer-requires
 answer-requires c = let s = c in (rw c.in_force-table.ensures s.requires.0.state.table, omega arith)
 
-pub returns-in-Count : goal.returns-in-Count
+pub returns-in-Some : goal.returns-in-Some
 unfolding asked_text
-returns-in-Count c = let a = c in
+returns-in-Some c = let a = c in
     let known = a in
     let n = known in
     let s = n in
     let e : n.natural-n.result ≡ number_behind s.args.line.now = rw (n.natural-n.ensures, n.only.ensures, n.rest.ensures, others-of s.args.line.now) in
-    rw (← e, known.in-Count.is, ← a.in_force-table.ensures) a.answer.ensures
+    rw (← e, known.in-Some.is, ← a.in_force-table.ensures) a.answer.ensures
 
-pub returns-in-Missing : goal.returns-in-Missing
+pub returns-in-None : goal.returns-in-None
 unfolding asked_text
-returns-in-Missing c = let w = c in
+returns-in-None c = let w = c in
     let known = w in
     let n = known in
     let s = n in
     let e : n.natural-n.result ≡ number_behind s.args.line.now = rw (n.natural-n.ensures, n.only.ensures, n.rest.ensures, others-of s.args.line.now) in
-    rw (← e, known.in-Missing.is) w.wrong.ensures
+    rw (← e, known.in-None.is) w.wrong.ensures

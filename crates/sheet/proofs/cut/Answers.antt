@@ -6,25 +6,25 @@ use Rattle.sheet.specs.Sheet.{number_behind, after_cut, cut_text}
 use borrow.Author.Rules.{rules}
 use Rattle.sheet.proofs.cut.Goals as goal
 
-pub returns-in-Count : goal.returns-in-Count
+pub returns-in-Some : goal.returns-in-Some
 unfolding after_cut cut_text
-returns-in-Count c = let known = c in
+returns-in-Some c = let known = c in
     let n = known in
     let s = n in
     let e : n.natural-n.result ≡ number_behind s.args.line.now = rw (n.natural-n.ensures, n.only.ensures, n.rest.ensures, others-of s.args.line.now) in
     record {
-      is = rw (← e, known.in-Count.is) c.with_given.ensures;
-      text = rw (← e, known.in-Count.is) (put-none _ 0);
+      is = rw (← e, known.in-Some.is) c.with_given.ensures;
+      text = rw (← e, known.in-Some.is) (put-none _ 0);
     }
 
-pub returns-in-Missing : goal.returns-in-Missing
+pub returns-in-None : goal.returns-in-None
 unfolding after_cut cut_text
-returns-in-Missing c = let w = c in
+returns-in-None c = let w = c in
     let known = w in
     let n = known in
     let s = n in
     let e : n.natural-n.result ≡ number_behind s.args.line.now = rw (n.natural-n.ensures, n.only.ensures, n.rest.ensures, others-of s.args.line.now) in
     record {
-      is = rw (← e, known.in-Missing.is);
-      text = rw (← e, known.in-Missing.is) w.wrong.ensures;
+      is = rw (← e, known.in-None.is);
+      text = rw (← e, known.in-None.is) w.wrong.ensures;
     }

@@ -1,22 +1,18 @@
 -- `poll_dialog::asked::report` meets its contract: the first word is an address and the only other one 0 or 1, or not.
 use Rattle.text.specs.WordLaws.{first-of, others-of}
 use Rattle.poll_dialog.specs.Asked.{report_in}
-use borrow.Author.Rules.{rules}
 use Rattle.poll_dialog.proofs.asked.report.Goals as goal
 
-pub returns-in-Count-v : goal.returns-in-Count-v
+pub returns-in-Some-Some : goal.returns-in-Some-Some
 unfolding report_in
-returns-in-Count-v c = let n = c in
-    let s = n in
-    rw (first-of _, ← s.word.ensures, ← s.natural-n.ensures, n.in-Count.is, others-of _, ← s.rest.ensures, ← s.only.ensures, ← s.natural-v.ensures, c.in-Count-v.is)
+returns-in-Some-Some c =
+    rw (first-of _, ← c.word.ensures, ← c.natural-n.ensures, c.in-Some-Some.is-0, others-of _, ← c.rest.ensures, ← c.only.ensures, ← c.natural-v.ensures, c.in-Some-Some.is-1)
 
-pub returns-in-Missing-v : goal.returns-in-Missing-v
+pub returns-in_default : goal.returns-in_default
 unfolding report_in
-returns-in-Missing-v c = let n = c in
-    let s = n in
-    rw (first-of _, ← s.word.ensures, ← s.natural-n.ensures, n.in-Count.is, others-of _, ← s.rest.ensures, ← s.only.ensures, ← s.natural-v.ensures, c.in-Missing-v.is)
+returns-in_default c =
+    rw (first-of _, ← c.word.ensures, ← c.natural-n.ensures, c.in_default.is-0, others-of _, ← c.rest.ensures, ← c.only.ensures, ← c.natural-v.ensures, c.in_default.is-1)
 
-pub returns-in-Missing : goal.returns-in-Missing
+pub returns-in_default-2 : goal.returns-in_default-2
 unfolding report_in
-returns-in-Missing c = let s = c in
-    rw (first-of _, ← s.word.ensures, ← s.natural-n.ensures, c.in-Missing.is)
+returns-in_default-2 c = rw (first-of _, ← c.word.ensures, ← c.natural-n.ensures, c.in_default.is-0)

@@ -6,7 +6,6 @@ use borrow.Author.Tests.{lt-ltb, le-ltb, eq-eqb, ne_eqb}
 use Rattle.text.specs.Marks.{newline}
 use Rattle.script.specs.Collector.{pushed_on}
 use Rattle.script.proofs.CollectorLaws.{begun-renews}
-use borrow.Author.Rules.{rules}
 use Rattle.script.proofs.collector.push.Goals as goal
 
 pub returns-then-b-eq10 : goal.returns-then-b-eq10

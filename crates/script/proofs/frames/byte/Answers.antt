@@ -1,7 +1,6 @@
 -- `script::frames::byte` meets its contract: two digits are a number below 256.
 use native.Mathlib.Omega.{arith}
 use Rattle.text.proofs.HexLaws.{hex-parts, hex-is, hex-fits}
-use borrow.Author.Rules.{rules}
 use Rattle.script.proofs.frames.byte.Goals as goal
 
 pub value-requires : goal.value-requires

@@ -2,7 +2,6 @@
 use mathlib.Core.Path.{sym, ◌∙◌}
 use Rattle.script.specs.Commands.{frame_in, frame_of, packed}
 use Rattle.text.specs.WordLaws.{others-of}
-use borrow.Author.Rules.{rules}
 use Rattle.script.proofs.frames.frame.Goals as goal
 
 pub gathered-requires : goal.gathered-requires

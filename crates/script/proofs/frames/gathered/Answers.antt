@@ -2,11 +2,10 @@
 use mathlib.Core.Path.{sym, ap, ◌∙◌}
 use native.Mathlib.Omega.{arith}
 use lib.ListN.{length}
-use Rattle.script.specs.Commands.{most_bytes, is_frame}
-use Rattle.script.proofs.GatherLaws.{Left, left-all, left-hex, left-room, left-next}
+use Rattle.script.specs.Commands.{is_frame}
+use Rattle.script.proofs.GatherLaws.{left-all, left-hex, left-room, left-next}
 use Rattle.script.proofs.FrameLaws.{bytes_packed}
 use Rattle.text.specs.WordLaws.{rest-within, rest-shorter, go_on}
-use borrow.Author.Rules.{rules}
 use Rattle.script.proofs.frames.gathered.Goals as goal
 
 pub loop-t-init : goal.loop-t-init

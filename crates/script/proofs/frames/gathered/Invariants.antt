@@ -1,12 +1,7 @@
 -- `script::frames::gathered` meets its contract. The invariant is `Left`: the bytes stored so far and the words that are left. The measure is what is left of the text.
-use mathlib.Core.Path.{sym, ap, ◌∙◌}
-use native.Mathlib.Omega.{arith}
 use lib.ListN.{length}
-use Rattle.script.specs.Commands.{most_bytes, is_frame}
-use Rattle.script.proofs.GatherLaws.{Left, left-all, left-hex, left-room, left-next}
-use Rattle.script.proofs.FrameLaws.{bytes_packed}
-use Rattle.text.specs.WordLaws.{rest-within, rest-shorter, go_on}
-use borrow.Author.Rules.{rules}
+use Rattle.script.specs.Commands.{most_bytes}
+use Rattle.script.proofs.GatherLaws.{Left}
 use Rattle.script.proofs.frames.gathered.Given as goal
 
 abbrev pub invariant-loop-t : goal.invariant-loop-t

@@ -1,5 +1,4 @@
 -- `script::frames::is_frame` meets its contract: at most 300 words of two hex digits.
-use borrow.Author.Rules.{rules}
 use Rattle.script.specs.Commands.{is_frame}
 use Rattle.script.proofs.frames.is_frame.Goals as goal
 
