@@ -4,6 +4,7 @@
 use Rattle.std.proofs.Common.{arith, lit≤, sym, ap, ◌∙◌}
 use Rattle.std.specs.Prelude.{ℕ, zero, suc, ◌+◌, ◌^◌, ◌≤◌, ◌<◌, ℤ, pos, nat_abs, ◌-ℤ◌, ◌*ℤ◌, ◌≤ℤ◌, true, false, cond, ◌≡◌, refl}
 use Rattle.std.proofs.Math.IntN.{*ℤ_comm, *ℤ-zero, zero-*ℤ, +ℤ_invr}
+use Rattle.std.specs.Int.{int_max, int_min}
 use Rattle.std.specs.Int.Signed.{lt_z}
 use Rattle.integers.specs.IntLaws.{ints, within, sub_within, eq_of, excl, sub_is, abs_is, lt_z-true, lt_z-false}
 use Rattle.integers.specs.Int.{Within}
@@ -87,6 +88,11 @@ fits-small zero code h = within (2 ^ 24) code (omega (arith, ints)) (omega (arit
 fits-small (suc k) code h = within (2 ^ 24) code (omega (arith, ints)) (omega (arith, ints))
 
 -- ---- the hold
+
+-- std's `clamp`
+pub held-clamp : (lo hi z : ℤ) → lo ≤ℤ hi → int_max lo (int_min z hi) ≡ held lo hi z
+unfolding held
+held-clamp lo hi z h = grind (arith, ints)
 
 pub held_low : (lo hi z : ℤ) → lo ≤ℤ hi → lo ≤ℤ held lo hi z
 unfolding held

@@ -3,7 +3,7 @@
 #![tactic(auto)]
 
 ghost use Rattle.std.specs.Prelude.{◌≡◌, pos};
-ghost use Rattle.analog.specs.AnalogCode.{upper_of, lower_of, fraction, full_scale, lowest, held, on_scale, coded_of, CodeFits};
+ghost use Rattle.analog.specs.AnalogCode.{upper_of, lower_of, fraction, full_scale, lowest, on_scale, coded_of, CodeFits};
 ghost use Rattle.analog.specs.Drives.{float_of, drive_of, drive_value, analog_value, Unrounded};
 ghost use Rattle.integers.specs.Fraction.{Same, rounded};
 
@@ -69,19 +69,6 @@ fn lowest_code(format: u32) -> i64
     }
 }
 
-// z, held to lo..hi.
-fn hold(lo: i64, hi: i64, z: i64) -> i64
-    ensures { result ≡ held lo hi z }
-{
-    if z < lo {
-        return lo;
-    }
-    if hi < z {
-        return hi;
-    }
-    z
-}
-
 // f on the format's scale, rounded, before it is held.
 fn rounded(format: u32, start: i32, end: i32, r: i32) -> Rounded
     ensures { result ≡ rounded (on_scale format (fraction start end r)) }
@@ -94,11 +81,12 @@ pub fn code(format: u32, start: i32, end: i32, r: i32) -> Coded
     ensures { result ≡ coded_of format start end r }
 {
     let z = rounded(format, start, end, r);
-    let code = hold(lowest_code(format), full_scale(format), z.value) as i32;
+    let code = z.value.clamp(lowest_code(format), full_scale(format)) as i32;
     let half = z.half;
     Coded { code, half }
 }
 
+// Kept: three functions of one line, since each is the paper's own formula, and its float steps have to stand as the paper has them.
 // code * 10 / 32768 volts.
 fn volts(code: i32) -> f32
     requires { CodeFits 0 code }

@@ -93,12 +93,7 @@ fn widened(r: DriveRecord, p: f32) -> DriveRecord
 fn left_alone(r: DriveRecord) -> DriveRecord
     ensures { result ≡ left_alone r }
 {
-    DriveRecord {
-        present: 0.0,
-        lowest: r.lowest,
-        highest: r.highest,
-        empty: r.empty,
-    }
+    DriveRecord { present: 0.0, ..r }
 }
 
 // Brought up to date with the drive at the end of an event. No float that is compared is a NaN.

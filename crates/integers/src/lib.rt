@@ -57,11 +57,11 @@ fn divided(d: i64, r: i64) -> i64
     if r <= 0 {
         return 0;
     }
-    let m = d % r;
-    if m < 0 { m + r } else { m }
+    d.rem_euclid(r)
 }
 
 // d modulo r, from 0 to r - 1; 0 where r is not above 0. A number that is in that range already is not divided.
+// Kept: the test beside `rem_euclid`, since a division costs a telegram with a round loop more than all else (docs/PERFORMANCE.md).
 pub fn floor_rem(d: i64, r: i64) -> i64
     ensures { result ≡ floor_mod d r }
 {

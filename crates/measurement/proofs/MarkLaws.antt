@@ -1,6 +1,6 @@
 -- Where linearization's mark is no: with the mode off, before the first used point, from the last on, and at every used point; and in one quadrant the mark of a
 -- negative v is that of -v. Paper 02, K7. Assumes nothing.
-use Rattle.std.specs.Prelude.{◌≡◌, refl, true, false, List, ℕ, ◌+◌, ◌*◌, ◌-◌, ◌≤◌, ◌<◌, T, ℤ, pos, nat_abs, ◌+ℤ◌, ◌-ℤ◌, ◌*ℤ◌}
+use Rattle.std.specs.Prelude.{Option, None, Some, ◌≡◌, refl, true, false, List, ℕ, ◌+◌, ◌*◌, ◌-◌, ◌≤◌, ◌<◌, T, ℤ, pos, nat_abs, ◌+ℤ◌, ◌-ℤ◌, ◌*ℤ◌}
 use Rattle.std.proofs.Common.{sym, ap, ◌∙◌, subst, arith}
 use Rattle.std.proofs.Math.Decide.{dec_le}
 use Rattle.std.specs.Int.Signed.{le_z, lt_z}
@@ -9,8 +9,6 @@ use Rattle.integers.specs.Fraction.{whole, halfway}
 use Rattle.integers.specs.declared.Rounded.{Rounded}
 use Rattle.integers.specs.Round.{halved, rounding}
 use Rattle.integers.specs.RingLaws.{var, lit, ◌⊕◌, ◌⊖◌, ◌⊗◌, ring, le-ex, lt-ex}
-use Rattle.measurement.specs.declared.Found.{Found}
-use Rattle.measurement.specs.declared.Found.TheVariants.{At, Nothing}
 use Rattle.measurement.specs.Curve.{Point, point_at, points_from, highest_of, line, four_quadrants, one_quadrant, curve, linearized_by}
 use Rattle.measurement.proofs.SearchLaws.{Highest, found_at, x-rises, value_none, value-last, value_line, one-negative}
 use Rattle.measurement.specs.Sound.{Usable}
@@ -60,19 +58,19 @@ module _ {ws : List ℤ} {n : ℕ} (u : Usable ws n) where
               rises i l = subst (λ (k : ℕ). T (lt_z (point_at ws i).x (point_at ws k).x)) (omega arith) (u.rises i (omega arith))
 
   -- what the search finds says it: nothing, or the last point, or a point on its own x
-  at-nothing : (v : ℤ) → highest_of ws n v ≡ Nothing → Unmarked v
+  at-nothing : (v : ℤ) → highest_of ws n v ≡ None → Unmarked v
   at-nothing v e = ap halfway (value_none u v e) ∙ whole-no-half (point_at ws 0).y
 
-  at_last : (v : ℤ) (i : ℕ) → highest_of ws n v ≡ At i → i + 1 ≡ n → Unmarked v
+  at_last : (v : ℤ) (i : ℕ) → highest_of ws n v ≡ Some i → i + 1 ≡ n → Unmarked v
   at_last v i e l = ap halfway (value-last u v i e l) ∙ whole-no-half (point_at ws i).y
 
   -- before the first point
   pub before-first : (v : ℤ) → T (lt_z v (point_at ws 0).x) → Unmarked v
   before-first v t = go (highest_of ws n v) refl
     where
-      go : (f : Found) → highest_of ws n v ≡ f → Unmarked v
-      go Nothing e = at-nothing v e
-      go (At i) e =
+      go : (f : Option ℕ) → highest_of ws n v ≡ f → Unmarked v
+      go None e = at-nothing v e
+      go (Some i) e =
           let f = found_at ws n v i e in
           let a = le-ex (var (point_at ws 0).x) (var (point_at ws i).x) (x-rises u 0 i (omega arith) f.used) in
           let b = le-ex (var (point_at ws i).x) (var v) f.below in
@@ -89,9 +87,9 @@ module _ {ws : List ℤ} {n : ℕ} (u : Usable ws n) where
           let b = le-ex (var (point_at ws (n - 1)).x) (var v) t in
           omega arith
 
-      go : (f : Found) → highest_of ws n v ≡ f → Unmarked v
-      go Nothing e = at-nothing v e
-      go (At i) e = last (dec_le n (i + 1))
+      go : (f : Option ℕ) → highest_of ws n v ≡ f → Unmarked v
+      go None e = at-nothing v e
+      go (Some i) e = last (dec_le n (i + 1))
         where
           last : Dec (n ≤ i + 1) → Unmarked v
           last (yes l) = at_last v i e (omega (arith, (found_at ws n v i e).used))
@@ -104,9 +102,9 @@ module _ {ws : List ℤ} {n : ℕ} (u : Usable ws n) where
       x : ℤ
       x = (point_at ws i).x
 
-      go : (f : Found) → highest_of ws n x ≡ f → Unmarked x
-      go Nothing e = at-nothing x e
-      go (At j) e = at (dec_le n (j + 1))
+      go : (f : Option ℕ) → highest_of ws n x ≡ f → Unmarked x
+      go None e = at-nothing x e
+      go (Some j) e = at (dec_le n (j + 1))
         where
           f : Highest ws n x j
           f = found_at ws n x j e

@@ -1,6 +1,6 @@
 -- The search among the control points, and what it says of the curve: the highest used point with x at most v picks the segment on which v lies.
 -- Paper 01, "From telegram to result", step 4. Assumes nothing.
-use Rattle.std.specs.Prelude.{◌≡◌, refl, true, false, cond, List, ◌∷◌, leb, ℤ, pos, negsuc, nat_abs, ◌+ℤ◌, ◌-ℤ◌, ◌*ℤ◌, get_or, ◌<ℤ◌}
+use Rattle.std.specs.Prelude.{Option, None, Some, ◌≡◌, refl, true, false, cond, List, ◌∷◌, leb, ℤ, pos, negsuc, nat_abs, ◌+ℤ◌, ◌-ℤ◌, ◌*ℤ◌, get_or, ◌<ℤ◌}
 use Rattle.std.proofs.Common.{sym, ap₂, ◌∙◌, add-zero, add-one, arith, lit≤}
 use Rattle.std.proofs.Math.Path.{ap, subst}
 use Prim.Native.Nat.{ℕ, zero, suc, ◌+◌, ◌*◌, ◌-◌, ◌≤◌, ◌<◌}
@@ -17,8 +17,6 @@ use Rattle.integers.specs.declared.Rounded.{Rounded}
 use Rattle.integers.specs.Round.{rounding}
 use Rattle.integers.proofs.RoundLaws.{round-one, round-neg, round-within}
 use Rattle.integers.proofs.HalfLaws.{half-neg}
-use Rattle.measurement.specs.declared.Found.{Found}
-use Rattle.measurement.specs.declared.Found.TheVariants.{At, Nothing}
 use Rattle.integers.specs.Fraction.{Frac, whole, minus, nearest, halfway, rounded}
 use Rattle.measurement.specs.Sound.{Usable, OnLine, Linearizable}
 use Rattle.measurement.specs.Curve.{Point, point_at, points_from, highest_of, before, line, line_value, right_of, four_quadrants, one_quadrant, curve, rising}
@@ -45,7 +43,7 @@ line-value x y x₁ y₁ v h = same (x₁ -ℤ x) (y₁ -ℤ y) (nat_abs (x₁ -
 -- ---- what is found
 
 -- the search among i points looks at the last of them first
-pub last-first : (ws : List ℤ) (i : ℕ) (v : ℤ) → 0 < i → highest_of ws i v ≡ cond (le_z (point_at ws (i - 1)).x v) (At (i - 1)) (highest_of ws (i - 1) v)
+pub last-first : (ws : List ℤ) (i : ℕ) (v : ℤ) → 0 < i → highest_of ws i v ≡ cond (le_z (point_at ws (i - 1)).x v) (Some (i - 1)) (highest_of ws (i - 1) v)
 unfolding highest_of
 last-first ws zero v h = absurd (omega arith)
 last-first ws (suc i) v h = simp unary_clauses
@@ -56,9 +54,9 @@ pub record Highest (ws : List ℤ) (n : ℕ) (v : ℤ) (i : ℕ) : Type 0 where
   pub below : T (le_z (point_at ws i).x v)
   pub above : (j : ℕ) → i < j → j < n → T (lt_z v (point_at ws j).x)
 
-abbrev said : List ℤ → ℕ → ℤ → Found → Type 0
-said ws n v (At i) = Highest ws n v i
-said ws n v Nothing = (j : ℕ) → j < n → T (lt_z v (point_at ws j).x)
+abbrev said : List ℤ → ℕ → ℤ → Option ℕ → Type 0
+said ws n v (Some i) = Highest ws n v i
+said ws n v None = (j : ℕ) → j < n → T (lt_z v (point_at ws j).x)
 
 -- one more point, above v: what was found stays
 above-too : (ws : List ℤ) (n : ℕ) (v : ℤ) → T (lt_z v (point_at ws n).x) → (j : ℕ) → j < suc n → (j < n → T (lt_z v (point_at ws j).x)) → T (lt_z v (point_at ws j).x)
@@ -68,28 +66,28 @@ above-too ws n v t j b f = go (dec_le n j)
     go (yes y) = subst (λ (k : ℕ). T (lt_z v (point_at ws k).x)) (omega arith) t
     go (no y) = f (omega (arith, y))
 
-more : (ws : List ℤ) (n : ℕ) (v : ℤ) → T (lt_z v (point_at ws n).x) → (f : Found) → said ws n v f → said ws (suc n) v f
-more ws n v t (At i) h =
+more : (ws : List ℤ) (n : ℕ) (v : ℤ) → T (lt_z v (point_at ws n).x) → (f : Option ℕ) → said ws n v f → said ws (suc n) v f
+more ws n v t (Some i) h =
     record {
       used = omega (arith, h.used);
       below = h.below;
       above = λ j a b. above-too ws n v t j b (h.above j a);
     }
-more ws n v t Nothing h = λ j b. above-too ws n v t j b (h j)
+more ws n v t None h = λ j b. above-too ws n v t j b (h j)
 
 pub found : (ws : List ℤ) (n : ℕ) (v : ℤ) → said ws n v (highest_of ws n v)
 unfolding highest_of
 found ws zero v = λ j b. absurd (omega arith)
 found ws (suc n) v =
-    by-test (le_z (point_at ws n).x v) (At n) (highest_of ws n v) (said ws (suc n) v)
+    by-test (le_z (point_at ws n).x v) (Some n) (highest_of ws n v) (said ws (suc n) v)
     (λ t. record { used = omega arith; below = t; above = λ j a b. absurd (omega arith) })
     (λ t. more ws n v (nle→lt (point_at ws n).x v t) (highest_of ws n v) (found ws n v))
 
 -- the same by cases
-pub found_at : (ws : List ℤ) (n : ℕ) (v : ℤ) (i : ℕ) → highest_of ws n v ≡ At i → Highest ws n v i
+pub found_at : (ws : List ℤ) (n : ℕ) (v : ℤ) (i : ℕ) → highest_of ws n v ≡ Some i → Highest ws n v i
 found_at ws n v i e = subst (said ws n v) e (found ws n v)
 
-pub found_none : (ws : List ℤ) (n : ℕ) (v : ℤ) → highest_of ws n v ≡ Nothing → (j : ℕ) → j < n → T (lt_z v (point_at ws j).x)
+pub found_none : (ws : List ℤ) (n : ℕ) (v : ℤ) → highest_of ws n v ≡ None → (j : ℕ) → j < n → T (lt_z v (point_at ws j).x)
 found_none ws n v e = subst (said ws n v) e (found ws n v)
 
 -- ---- rising x
@@ -157,7 +155,7 @@ module _ {ws : List ℤ} {n : ℕ} (u : Usable ws n) (v : ℤ) where
   unfolding points_from
   used-points = let e : n ≡ suc (n - 1) = omega (arith, u.some) in ap (points_from ws 0) e
 
-  pub value_none : highest_of ws n v ≡ Nothing → four_quadrants (points_from ws 0 n) (whole v) ≡ whole (point_at ws 0).y
+  pub value_none : highest_of ws n v ≡ None → four_quadrants (points_from ws 0 n) (whole v) ≡ whole (point_at ws 0).y
   unfolding four_quadrants
   value_none e = rw (used-points, is-before v (point_at ws 0).x (found_none ws n v e 0 u.some))
 
@@ -168,14 +166,14 @@ module _ {ws : List ℤ} {n : ℕ} (u : Usable ws n) (v : ℤ) where
       let b = le-ex (var (point_at ws i).x) (var v) h.below in
       le-by (var (point_at ws j).x) (var v) (omega arith)
 
-  pub value-last : (i : ℕ) → highest_of ws n v ≡ At i → i + 1 ≡ n → four_quadrants (points_from ws 0 n) (whole v) ≡ whole (point_at ws i).y
+  pub value-last : (i : ℕ) → highest_of ws n v ≡ Some i → i + 1 ≡ n → four_quadrants (points_from ws 0 n) (whole v) ≡ whole (point_at ws i).y
   unfolding four_quadrants
   value-last i e l =
       let h = found_at ws n v i e in
       rw (used-points, is-not-before v (point_at ws 0).x (up_to i h 0 (omega arith)))
       (at_last ws v 0 (n - 1) (λ j a b. up_to i h j (omega arith)) ∙ ap (λ (k : ℕ). whole (point_at ws k).y) (omega arith))
 
-  pub value_line : (i : ℕ) → highest_of ws n v ≡ At i → i + 1 < n → four_quadrants (points_from ws 0 n) (whole v) ≡ line (point_at ws i) (point_at ws (i + 1)) (whole v)
+  pub value_line : (i : ℕ) → highest_of ws n v ≡ Some i → i + 1 < n → four_quadrants (points_from ws 0 n) (whole v) ≡ line (point_at ws i) (point_at ws (i + 1)) (whole v)
   unfolding four_quadrants
   value_line i e l =
       let h = found_at ws n v i e in
@@ -190,12 +188,12 @@ module _ {ws : List ℤ} {n : ℕ} (u : Usable ws n) (v : ℤ) where
       let b : 2 * (i + 1) + 1 ≡ 2 * i + 3 = omega arith in
       ap₂ (λ (j k : ℕ). record { x = get_or ws j (pos 0); y = get_or ws k (pos 0) }) a b
 
-  pub value-words : (i : ℕ) → highest_of ws n v ≡ At i → i + 1 < n →
+  pub value-words : (i : ℕ) → highest_of ws n v ≡ Some i → i + 1 < n →
       rounded (four_quadrants (points_from ws 0 n) (whole v)) ≡ line_value (get_or ws (2 * i) (pos 0)) (get_or ws (2 * i + 1) (pos 0)) (get_or ws (2 * i + 2) (pos 0)) (get_or ws (2 * i + 3) (pos 0)) v
   unfolding line_value
   value-words i e l = ap rounded (value_line i e l) ∙ ap (λ (p : Point). rounded (line (point_at ws i) p (whole v))) (next i)
 
-  pub on-words : (i : ℕ) → highest_of ws n v ≡ At i → i + 1 < n → OnLine (get_or ws (2 * i) (pos 0)) (get_or ws (2 * i + 1) (pos 0)) (get_or ws (2 * i + 2) (pos 0)) (get_or ws (2 * i + 3) (pos 0)) v
+  pub on-words : (i : ℕ) → highest_of ws n v ≡ Some i → i + 1 < n → OnLine (get_or ws (2 * i) (pos 0)) (get_or ws (2 * i + 1) (pos 0)) (get_or ws (2 * i + 2) (pos 0)) (get_or ws (2 * i + 3) (pos 0)) v
   on-words i e l =
       let h = found_at ws n v i e in
       record {
@@ -231,7 +229,7 @@ pub four-within : {ws : List ℤ} {n : ℕ} → Usable ws n → (v : ℤ) → Wi
 unfolding rounding
 four-within {ws} {n} u v = go (highest_of ws n v) refl
   where
-    at : (i : ℕ) → highest_of ws n v ≡ At i → Dec (n ≤ i + 1) → Within 60000000000000000 (nearest (four_quadrants (points_from ws 0 n) (whole v)))
+    at : (i : ℕ) → highest_of ws n v ≡ Some i → Dec (n ≤ i + 1) → Within 60000000000000000 (nearest (four_quadrants (points_from ws 0 n) (whole v)))
     at i e (yes y) =
         let l : i + 1 ≡ n = omega (arith, (found_at ws n v i e).used) in
         rw (value-last u v i e l) (whole-within (point_at ws i).y (u.within (2 * i + 1) (omega arith)))
@@ -239,9 +237,9 @@ four-within {ws} {n} u v = go (highest_of ws n v) refl
         let l : i + 1 < n = omega (arith, y) in
         subst (λ (r : Rounded). Within 60000000000000000 r.value) (sym (value-words u v i e l)) (line-within _ _ _ _ v (on-words u v i e l))
 
-    go : (f : Found) → highest_of ws n v ≡ f → Within 60000000000000000 (nearest (four_quadrants (points_from ws 0 n) (whole v)))
-    go (At i) e = at i e (dec_le n (i + 1))
-    go Nothing e = rw (value_none u v e) (whole-within (point_at ws 0).y (u.within 1 (omega (arith, u.some))))
+    go : (f : Option ℕ) → highest_of ws n v ≡ f → Within 60000000000000000 (nearest (four_quadrants (points_from ws 0 n) (whole v)))
+    go (Some i) e = at i e (dec_le n (i + 1))
+    go None e = rw (value_none u v e) (whole-within (point_at ws 0).y (u.within 1 (omega (arith, u.some))))
 
 -- ---- one quadrant at a whole number
 

@@ -1,9 +1,7 @@
 -- The curve through the control points: L, its value at any fraction before rounding, and S, its steepest slope.
 -- Paper 01, "From telegram to result", step 4. Assumes nothing.
-use Rattle.std.specs.Prelude.{ℕ, zero, suc, ◌+◌, ◌*◌, Bool, cond, List, [], ◌∷◌, ◌≡◌, T, leb, ℤ, pos, nat_abs, ◌+ℤ◌, ◌-ℤ◌, ◌*ℤ◌, get_or}
+use Rattle.std.specs.Prelude.{Option, None, Some, ℕ, zero, suc, ◌+◌, ◌*◌, Bool, cond, List, [], ◌∷◌, ◌≡◌, T, leb, ℤ, pos, nat_abs, ◌+ℤ◌, ◌-ℤ◌, ◌*ℤ◌, get_or}
 use Rattle.std.specs.Int.Signed.{le_z, lt_z, non_neg}
-use Rattle.measurement.specs.declared.Found.{Found}
-use Rattle.measurement.specs.declared.Found.TheVariants.{At, Nothing}
 use Rattle.integers.specs.declared.Rounded.{Rounded}
 use Rattle.integers.specs.Fraction.{Frac, Ratio, whole, minus, nearest, rounded}
 
@@ -20,10 +18,10 @@ unfoldable pub points_from : List ℤ → ℕ → ℕ → List Point
 points_from ws i zero = []
 points_from ws i (suc n) = point_at ws i ∷ points_from ws (suc i) n
 
--- the highest of the first n points whose x is at most v, or none
-unfoldable pub highest_of : List ℤ → ℕ → ℤ → Found
-highest_of ws zero v = Nothing
-highest_of ws (suc n) v = cond (le_z (point_at ws n).x v) (At n) (highest_of ws n v)
+-- the place of the highest of the first n points whose x is at most v, or none
+unfoldable pub highest_of : List ℤ → ℕ → ℤ → Option ℕ
+highest_of ws zero v = None
+highest_of ws (suc n) v = cond (le_z (point_at ws n).x v) (Some n) (highest_of ws n v)
 
 -- q is below the whole number z
 abbrev pub before : Frac → ℤ → Bool

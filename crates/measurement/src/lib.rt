@@ -2,7 +2,7 @@
 // Uses `integers` for the rounding division and the remainder; knows plain numbers and the points' words, no slots.
 #![tactic(auto)]
 
-ghost use Rattle.std.specs.Prelude.{◌≡◌, ◌+◌, ◌*◌, ◌^◌, ◌≤◌, ◌<◌, pos, length};
+ghost use Rattle.std.specs.Prelude.{◌≡◌, Some, ◌+◌, ◌*◌, ◌^◌, ◌≤◌, ◌<◌, pos, length};
 ghost use Rattle.integers.specs.Int.{Within};
 ghost use Rattle.integers.specs.Fraction.{whole, rounded};
 ghost use Rattle.measurement.specs.Curve.{point_at, highest_of, line_value, points_from, four_quadrants, one_quadrant, linearized_by};
@@ -71,15 +71,6 @@ pub struct Scaling {
     pub linearization: u32,
     // How many control points are in use.
     pub used: usize,
-}
-
-// A control point found.
-#[derive(Clone, Copy)]
-enum Found {
-    // The point's place, counted from 0.
-    At(usize),
-    // There is none.
-    Nothing,
 }
 
 // Step 1, direction: 1 replaces p by (M - p) modulo M, with M = 2 ^ width.
@@ -154,21 +145,18 @@ fn x_of(points: &[i32], i: usize) -> i64
     points[2 * i] as i64
 }
 
-// The highest of the first n control points whose x is at most v, or none.
+// The place of the highest of the first n control points whose x is at most v, counted from 0, or none.
 // K3: the search starts at the last used point and goes down; the first point that fits is the highest, and ends it.
-fn highest(points: &[i32], n: usize, v: i64) -> Found
+fn highest(points: &[i32], n: usize, v: i64) -> Option<usize>
     requires { 2 * n ≤ length points.now }
     ensures { result ≡ highest_of points.now n v }
 {
-    let mut left = n;
-    while left > 0 {
-        let i = left - 1;
+    for i in (0..n).rev() {
         if x_of(points, i) <= v {
-            return Found::At(i);
+            return Some(i);
         }
-        left -= 1;
     }
-    Found::Nothing
+    None
 }
 
 // A whole number, at which no half decides.
@@ -195,7 +183,7 @@ fn on_line(x: i32, y: i32, x1: i32, y1: i32, v: i64) -> Rounded
 
 // From point i on, the highest with x at most v: the line to the next point, or its own y beyond the last.
 fn from_point(points: &[i32], n: usize, i: usize, v: i64) -> Rounded
-    requires { Usable points.now n × (highest_of points.now n v ≡ Found.At i) }
+    requires { Usable points.now n × (highest_of points.now n v ≡ Some i) }
     ensures { result ≡ rounded (four_quadrants (points_from points.now 0 n) (whole v)) }
 {
     let k = 2 * i;
@@ -211,8 +199,8 @@ fn four_quadrants(points: &[i32], n: usize, v: i64) -> Rounded
     ensures { result ≡ rounded (four_quadrants (points_from points.now 0 n) (whole v)) }
 {
     match highest(points, n, v) {
-        Found::At(i) => from_point(points, n, i, v),
-        Found::Nothing => whole(points[1] as i64),
+        Some(i) => from_point(points, n, i, v),
+        None => whole(points[1] as i64),
     }
 }
 

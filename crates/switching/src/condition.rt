@@ -8,7 +8,7 @@ fn magnitude(x: i64) -> i64
     requires { Within 8589934592 x }
     ensures { result ≡ magnitude_of x }
 {
-    if x < 0 { 0 - x } else { x }
+    x.abs()
 }
 
 // A word without its sign.

@@ -116,12 +116,13 @@ fn conditioned(p: Preselection, partner: i32, r: i32, released: bool, s: Switch)
 fn locked(p: Preselection, s: Switch) -> Switch
     ensures { result ≡ locked_of p s }
 {
-    let mut n = s;
     if p.lock == 1 {
-        n.locked = active(p, s);
-        return n;
+        return Switch {
+            locked: active(p, s),
+            ..s
+        };
     }
-    n
+    s
 }
 
 // One switch after a telegram or levels event, with its partner's preselection and the result.
@@ -132,33 +133,21 @@ fn switched(p: Preselection, partner: i32, r: i32, s: Switch) -> Switch
     locked(p, conditioned(p, partner, r, released, s))
 }
 
-// What is left of a pulse after ms more.
-fn pulse_left(left: u32, ms: u16) -> u32
-    ensures { result ≡ left - ms }
-{
-    if left <= ms as u32 {
-        return 0;
-    }
-    left - ms as u32
-}
-
 // One switch after a tick.
 fn ticked(ms: u16, s: Switch) -> Switch
     ensures { result ≡ ticked_of ms s }
 {
-    let left = pulse_left(s.pulse, ms);
-    let mut n = s;
-    n.pulse = left;
-    n
+    Switch {
+        pulse: s.pulse.saturating_sub(u32::from(ms)),
+        ..s
+    }
 }
 
 // One switch with its lock cleared.
 fn unlocked(s: Switch) -> Switch
     ensures { result ≡ unlocked_of s }
 {
-    let mut n = s;
-    n.locked = false;
-    n
+    Switch { locked: false, ..s }
 }
 
 // The partner of a preselection, counted from 0.
@@ -187,11 +176,9 @@ pub fn switch_all(ps: [Preselection; 4], r: i32, ss: [Switch; 4]) -> [Switch; 4]
     ensures { result ≡ all_switched ps r ss }
 {
     let mut next = ss;
-    let mut k: usize = 0;
-    while k < 4 {
+    for k in 0..4 {
         let q = switched_at(ps, r, k, next[k]);
         next[k] = q;
-        k += 1;
     }
     next
 }

@@ -1,5 +1,4 @@
 -- `integers::floor_rem` meets its contract: a number from 0 to r - 1 is its own remainder, and any other is divided.
-use borrow.Author.Rules.{rules}
 use mathlib.Core.Path.{◌≡◌}
 use mathlib.Core.Bool.{true}
 use native.Mathlib.Omega.{arith}

@@ -10,7 +10,7 @@ use Rattle.switching.specs.EachLaws.{each_start, each_more, each-end}
 use Rattle.switching.proofs.switch_all.Goals as goal
 
 pub loop-k-init : goal.loop-k-init
-loop-k-init c = (omega arith, search rules, each_start _ _)
+loop-k-init c = (search rules, each_start _ _)
 
 pub offset_bounds-next-k : goal.offset_bounds-next-k
 offset_bounds-next-k c = omega arith
@@ -27,19 +27,12 @@ offset_bounds-next-k-in-loop-k c = omega arith
 pub bounds-next-k-in-loop-k : goal.bounds-next-k-in-loop-k
 bounds-next-k-in-loop-k c = omega arith
 
-pub overflow_add-k : goal.overflow_add-k
-overflow_add-k c = omega arith
-
-pub loop-k-smaller : goal.loop-k-smaller
-loop-k-smaller c = omega arith
-
 pub loop-k-preserved : goal.loop-k-preserved
 loop-k-preserved c = let l = c.loop-k in (
-  omega arith,
-  length-set l.next l.k c.switched_at-q.result ∙ l.invariant.1,
-  l.invariant.2 ∙ each_more _ l.next l.k fresh_switch c.switched_at-q.result (omega arith) c.switched_at-q.ensures,
+  length-set l.next l.k c.switched_at-q.result ∙ l.invariant.0,
+  l.invariant.1 ∙ each_more _ l.next l.k fresh_switch c.switched_at-q.result (omega arith) c.switched_at-q.ensures,
 )
 
 pub returns : goal.returns
 returns c = let l = c.loop-k in
-    rw (← to_z-of_z {w = w32} c.ranges.r) (sym (l.invariant.2 ∙ each-end _ l.next l.k (omega arith)))
+    rw (← to_z-of_z {w = w32} c.ranges.r) (sym (l.invariant.1 ∙ each-end _ l.next l.k (omega arith)))

@@ -1,6 +1,5 @@
 -- `switching::switch_all` meets its contract. The invariant: the switches below k are switched, the others as they were (`done_to`).
 use mathlib.Core.Path.{◌≡◌}
-use Prim.Native.Nat.{◌≤◌, ◌-◌}
 use lib.ListN.{length}
 use Rattle.switching.specs.Switching.{switched_at}
 use Rattle.switching.specs.Each.{each_from}
@@ -8,7 +7,4 @@ use Rattle.switching.specs.EachLaws.{done_to}
 use Rattle.switching.proofs.switch_all.Given as goal
 
 abbrev pub invariant-loop-k : goal.invariant-loop-k
-invariant-loop-k l = (l.k ≤ 4) × (length l.next ≡ 4) × (each_from 0 (switched_at l.ps l.r) l.initial.next ≡ done_to (switched_at l.ps l.r) l.next l.k)
-
-abbrev pub decreases-loop-k : goal.decreases-loop-k
-decreases-loop-k l = 4 - l.k
+invariant-loop-k l = (length l.next ≡ 4) × (each_from 0 (switched_at l.ps l.r) l.initial.next ≡ done_to (switched_at l.ps l.r) l.next l.k)
