@@ -1,8 +1,11 @@
 -- A load's number is the first condition's: each number is returned in its own condition and in no other. The defaults load.
 -- Paper 01, "Where each check sits", load.
-use Rattle.std.specs.Prelude.{◌≡◌, refl, Bool, true, false, cond, List, ℕ, suc, ◌-◌, ◌<◌, ◌≤◌, eqb, ℤ, pos, negsuc, length, get_or}
-use Rattle.std.proofs.Common.{sym, ◌∙◌, ap, arith}
-use borrow.Author.Tests.{eq-eqb, ne_eqb, eqb-true, ltb-true, lt-ltb, le-ltb, not-false}
+use Rattle.std.specs.Prelude.{◌≡◌, refl, Bool, true, false, not, ◌&&◌, ◌||◌, cond, List, ℕ, suc, ◌-◌, ◌<◌, ◌≤◌, eqb, ℤ, pos, negsuc, length, get_or}
+use Rattle.std.proofs.Common.{lit<, sym, ◌∙◌, ap, arith}
+use mir.Syntax.{w32}
+use mir.Val.{SFits, of_z}
+use Rattle.integers.specs.IntLaws.{same_bits}
+use borrow.Author.Tests.{eqb-false, eq-eqb, ne_eqb, eqb-true, ltb-true, lt-ltb, le-ltb, not-false}
 use Rattle.parameters.specs.Rows.{lowest_out, out_from, row_of, row_at, in_range, defaults_from, default_table}
 use Rattle.parameters.proofs.RowLaws.{below-lowest, at-lowest}
 use Rattle.parameters.specs.Slots.{word_at}
@@ -29,6 +32,21 @@ same_true (pos a) (pos b) e = ap pos (eqb-true a b e)
 same_true (negsuc a) (negsuc b) e = ap negsuc (eqb-true a b e)
 same_true (pos a) (negsuc b) e = cc
 same_true (negsuc a) (pos b) e = cc
+
+-- and the test of their bits
+pub bits-same : {a b : ℤ} → SFits w32 a → SFits w32 b → eqb (of_z w32 a) (of_z w32 b) ≡ same_z a b
+bits-same {a} {b} f g = by (eqb (of_z w32 a) (of_z w32 b)) refl
+  where
+    by : (t : Bool) → eqb (of_z w32 a) (of_z w32 b) ≡ t → t ≡ same_z a b
+    by true e = sym (same-yes a b (same_bits f g (eqb-true _ _ e)))
+    by false e = sym (same-no a b (λ is. eqb-false _ _ e (ap (of_z w32) is)))
+
+pub bits-zero : {a : ℤ} → SFits w32 a → eqb (of_z w32 a) 0 ≡ same_z a (pos 0)
+bits-zero {a} f = bits-same {a = a} {b = pos 0} f (record { sfits = lit< tt })
+
+pub not-both : (a b : Bool) → (not a || not b) ≡ not (a && b)
+not-both true b = refl
+not-both false b = refl
 
 -- what load answers, stage by stage
 module _ (t : List ℤ) where

@@ -2,11 +2,10 @@
 use Rattle.std.specs.Prelude.{◌≡◌, refl, Bool, true, false, cond, List, ℕ, ◌<◌, ◌≤◌, eqb, ltb, ℤ, length}
 use Rattle.std.proofs.Common.{arith, eqb-true, eq-eqb, ltb-true, ltb-false}
 use Rattle.std.proofs.lemmas.Bool.{not-false}
-use Rattle.parameters.specs.Rows.{in_range, lowest_out, default_table}
+use Rattle.parameters.specs.Rows.{lowest_out, default_table}
 use Rattle.parameters.proofs.RowLaws.{below-lowest, at-lowest}
-use Rattle.parameters.specs.Slots.{word_at}
 use Rattle.parameters.specs.Search.{first_of}
-use Rattle.parameters.specs.Load.{words_missing, slot_out, field_wrong, error_bit_wrong, span_empty, points_not_rising, origin_missing, freeze_on_edge, polarities_differ, conflicts, conditions, condition, load_refusal, load_slot, refused_with, load_of}
+use Rattle.parameters.specs.Load.{words_missing, slot_out, conflicts, conditions, condition, load_refusal, load_slot, refused_with, load_of}
 use Rattle.parameters.proofs.LoadLaws.{loads-only, defaults-load}
 use Rattle.parameters.specs.Valid.{Valid}
 

@@ -1,6 +1,6 @@
 -- Every slot of the parameter table has one row: a low end, a high end, and a default. The points share the last row.
 -- Condenses paper 01, "The parameter table", and paper 02, K1.
-use Rattle.std.specs.Prelude.{Bool, ◌&&◌, cond, List, [], ◌∷◌, ◌++◌, ℕ, zero, suc, ◌+◌, ◌*◌, ltb, ℤ, pos, neg_ℤ, get_or}
+use Rattle.std.specs.Prelude.{Bool, ◌&&◌, cond, Option, Some, None, List, [], ◌∷◌, ◌++◌, ℕ, zero, suc, ◌+◌, ◌*◌, ltb, ℤ, pos, neg_ℤ, get_or}
 use Rattle.std.specs.Int.Signed.{le_z}
 use Rattle.integers.specs.Limit.{Z}
 use Rattle.parameters.specs.declared.rows.Row.{Row}
@@ -88,6 +88,10 @@ out_from i (v ∷ vs) = cond (in_range i v) (out_from (suc i) vs) i
 
 abbrev pub lowest_out : List ℤ → ℕ
 lowest_out t = out_from 0 t
+
+-- that slot of a table, none where every word is in range
+unfoldable pub slot_out_of : List ℤ → Option ℕ
+slot_out_of t = cond (ltb (lowest_out t) 104) (Some (lowest_out t)) None
 
 -- the defaults of n slots from slot i on, and of all
 unfoldable pub defaults_from : ℕ → ℕ → List ℤ

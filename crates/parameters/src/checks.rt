@@ -2,7 +2,7 @@
 ghost use Rattle.std.specs.Prelude.{◌≡◌, ◌<◌};
 ghost use Rattle.integers.specs.Choice.{some};
 ghost use Rattle.parameters.specs.Search.{first_of};
-ghost use Rattle.parameters.specs.Load.{field_wrong, error_bit_wrong, same_z, span_empty, not_above, points_not_rising, origin_missing, frozen_by_edge, freeze_on_edge, differ, differs_from, polarities_differ, conflicts};
+ghost use Rattle.parameters.specs.Load.{field_wrong, error_bit_wrong, span_empty, not_above, points_not_rising, origin_missing, frozen_by_edge, freeze_on_edge, differ, differs_from, polarities_differ, conflicts};
 
 use crate::{natural, slots, word};
 
@@ -31,21 +31,11 @@ fn error_bit_wrong(t: &[i32; 104]) -> bool
     false
 }
 
-// Whether two words are equal.
-fn same(a: i32, b: i32) -> bool
-    ensures { result ≡ same_z a b }
-{
-    if a == b {
-        return true;
-    }
-    false
-}
-
 // 5: start equals end.
 fn span_empty(t: &[i32; 104]) -> bool
     ensures { result ≡ span_empty t.now }
 {
-    same(word(t, slots::ANALOG_START), word(t, slots::ANALOG_END))
+    word(t, slots::ANALOG_START) == word(t, slots::ANALOG_END)
 }
 
 // Whether the point after point j is used and its x is not above that of point j.
@@ -65,14 +55,7 @@ fn not_above(t: &[i32; 104], j: usize) -> bool
 fn some_not_above(t: &[i32; 104]) -> bool
     ensures { result ≡ some 23 (not_above t.now) }
 {
-    let mut j: usize = 0;
-    while j < 23 {
-        if not_above(t, j) {
-            return true;
-        }
-        j += 1;
-    }
-    false
+    (0..23).any(|j| not_above(t, j))
 }
 
 // 6: linearization is on, and the used x do not strictly rise.
@@ -92,10 +75,7 @@ fn origin_missing(t: &[i32; 104]) -> bool
     if natural(t, slots::LINEARIZATION) != 1 {
         return false;
     }
-    if same(word(t, slots::POINT_X), 0) {
-        return !same(word(t, slots::POINT_Y), 0);
-    }
-    true
+    (word(t, slots::POINT_X) != 0) | (word(t, slots::POINT_Y) != 0)
 }
 
 // Whether input i + 1 is set to freeze on an edge.
@@ -107,10 +87,7 @@ fn frozen_by_edge(t: &[i32; 104], i: usize) -> bool
         return false;
     }
     let config = natural(t, slots::CONFIG + slots::INPUT_STRIDE * i);
-    if config == 2 {
-        return true;
-    }
-    config == 3
+    (config == 2) | (config == 3)
 }
 
 // 8: freeze with config 2 or 3.

@@ -23,10 +23,7 @@ pub fn word(t: &[i32; 104], slot: usize) -> i32
 fn unsigned(x: i32) -> u32
     ensures { result ≡ P x }
 {
-    if x < 0 {
-        return 0;
-    }
-    x as u32
+    u32::try_from(x).unwrap_or(0)
 }
 
 // The number in a slot.
@@ -80,11 +77,7 @@ fn filled(words: &[i32]) -> [i32; 104]
     ensures { result ≡ words.now }
 {
     let mut t = [0i32; 104];
-    let mut i: usize = 0;
-    while i < 104 {
-        t[i] = words[i];
-        i += 1;
-    }
+    t.copy_from_slice(words);
     t
 }
 
@@ -108,8 +101,7 @@ pub fn load(words: &[i32]) -> Loaded
         return refused(1, 0);
     }
     let t = filled(words);
-    let slot = rows::lowest_out(t);
-    if slot < 104 {
+    if let Some(slot) = rows::lowest_out(&t) {
         return refused(2, slot);
     }
     let n = checks::conflict(&t);

@@ -1,8 +1,11 @@
 // The rows of the table, the check of every slot against its row, and the defaults. Uses nothing.
 ghost use Rattle.std.specs.Prelude.{◌≡◌};
-ghost use Rattle.parameters.specs.Rows.{row_of, row_at, in_range, lowest_out, default_table};
+ghost use Rattle.parameters.specs.Rows.{row_of, row_at, in_range, slot_out_of, default_table};
+
+use std::array;
 
 // A slot's row: the lowest word, the highest word, and the default.
+// Kept: fields with names are no plainer, since a row then takes five lines in place of one.
 #[derive(Clone, Copy)]
 struct Row(i32, i32, i32);
 
@@ -74,7 +77,7 @@ const ROWS: [Row; 57] = [
 fn row_of(slot: usize) -> usize
     ensures { result ≡ row_of slot }
 {
-    if slot < 56 { slot } else { 56 }
+    slot.min(56)
 }
 
 // The row of a slot.
@@ -89,38 +92,19 @@ fn in_range(slot: usize, v: i32) -> bool
     ensures { result ≡ in_range slot v }
 {
     let row = row_at(slot);
-    if row.0 <= v {
-        return v <= row.1;
-    }
-    false
+    (row.0 <= v) & (v <= row.1)
 }
 
-// The lowest slot out of range, 104 where there is none.
-pub(crate) fn lowest_out(t: [i32; 104]) -> usize
-    ensures { result ≡ lowest_out t }
+// The lowest slot out of range.
+pub(crate) fn lowest_out(t: &[i32; 104]) -> Option<usize>
+    ensures { result ≡ slot_out_of t.now }
 {
-    let mut i: usize = 0;
-    while i < 104 {
-        let fits = in_range(i, t[i]);
-        if !fits {
-            return i;
-        }
-        i += 1;
-    }
-    i
+    (0..104).find(|slot| !in_range(*slot, t[*slot]))
 }
 
 // The default of every slot.
 pub fn defaults() -> [i32; 104]
     ensures { result ≡ default_table }
 {
-    let mut t = [0i32; 104];
-    let mut i: usize = 0;
-    while i < 104 {
-        let row = row_at(i);
-        let d = row.2;
-        t[i] = d;
-        i += 1;
-    }
-    t
+    array::from_fn(|slot| row_at(slot).2)
 }

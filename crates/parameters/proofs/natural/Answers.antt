@@ -3,7 +3,6 @@ use lib.ListN.{get_or}
 use lib.IntN.{pos}
 use mir.Syntax.{w32}
 use Rattle.integers.specs.IntLaws.{back_at}
-use borrow.Author.Rules.{rules}
 use Rattle.parameters.proofs.natural.Goals as goal
 
 pub returns : goal.returns

@@ -1,5 +1,4 @@
 -- The filler is the default table.
-use borrow.Author.Rules.{rules}
 use Rattle.parameters.proofs.refused.Goals as goal
 
 pub returns : goal.returns

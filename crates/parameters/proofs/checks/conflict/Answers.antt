@@ -1,7 +1,6 @@
 -- Each check answers its condition. Past a check that found nothing, the number is that of the checks left; the first that finds something gives it.
 use mathlib.Core.Path.{◌≡◌, sym, ◌∙◌}
 use Prim.Native.Nat.{ℕ, ◌+◌}
-use borrow.Author.Rules.{rules}
 use lib.ListN.{drop}
 use Rattle.parameters.specs.Search.{first_of}
 use Rattle.parameters.specs.Load.{conflicts}

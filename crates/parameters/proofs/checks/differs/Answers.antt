@@ -1,7 +1,6 @@
 -- The tests are the definition's own, on the numbers read.
 use borrow.Author.Tests.{eq-eqb, ne_eqb}
 use Rattle.parameters.specs.Load.{differ}
-use borrow.Author.Rules.{rules}
 use Rattle.parameters.proofs.checks.differs.Goals as goal
 
 pub returns-then-output-eq0 : goal.returns-then-output-eq0

@@ -1,7 +1,6 @@
 -- The tests are the definition's own, on the numbers read.
 use borrow.Author.Tests.{lt-ltb, le-ltb, le-leb, lt-leb}
 use Rattle.parameters.specs.Load.{error_bit_wrong}
-use borrow.Author.Rules.{rules}
 use Rattle.parameters.proofs.checks.error_bit_wrong.Goals as goal
 
 pub returns-then-natural-bit : goal.returns-then-natural-bit

@@ -1,7 +1,6 @@
 -- The tests are the definition's own, on the numbers read.
 use borrow.Author.Tests.{lt-ltb, le-ltb}
 use Rattle.parameters.specs.Load.{field_wrong}
-use borrow.Author.Rules.{rules}
 use Rattle.parameters.proofs.checks.field_wrong.Goals as goal
 
 pub returns-then-high-natural : goal.returns-then-high-natural

@@ -1,5 +1,4 @@
 -- The three inputs are those below 3.
-use borrow.Author.Rules.{rules}
 use Rattle.integers.specs.Choice.{some}
 use Rattle.parameters.specs.Load.{freeze_on_edge}
 use Rattle.parameters.proofs.checks.freeze_on_edge.Goals as goal

@@ -3,7 +3,6 @@ use borrow.Author.Tests.{lt-ltb, le-ltb}
 use mir.Syntax.{w32}
 use Rattle.integers.specs.IntLaws.{back_at}
 use Rattle.parameters.specs.Load.{not_above}
-use borrow.Author.Rules.{rules}
 use Rattle.parameters.proofs.checks.not_above.Goals as goal
 
 pub returns-then-j-used : goal.returns-then-j-used

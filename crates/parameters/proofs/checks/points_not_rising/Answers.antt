@@ -1,7 +1,6 @@
 -- The test is the definition's own, on the number read.
 use borrow.Author.Tests.{eq-eqb, ne_eqb}
 use Rattle.parameters.specs.Load.{points_not_rising}
-use borrow.Author.Rules.{rules}
 use Rattle.parameters.proofs.checks.points_not_rising.Goals as goal
 
 pub returns-then-natural-eq0 : goal.returns-then-natural-eq0

@@ -1,5 +1,4 @@
 -- The four preselections are those below 4.
-use borrow.Author.Rules.{rules}
 use Rattle.integers.specs.Choice.{some}
 use Rattle.parameters.specs.Load.{polarities_differ}
 use Rattle.parameters.proofs.checks.polarities_differ.Goals as goal

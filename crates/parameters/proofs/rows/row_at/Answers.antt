@@ -1,6 +1,5 @@
 -- A slot's row number is below 57, and the constant list is the definition's list by computation.
 use native.Mathlib.Omega.{arith}
-use borrow.Author.Rules.{rules}
 use Rattle.parameters.specs.Rows.{row_at}
 use Rattle.parameters.proofs.RowLaws.{row_below}
 use Rattle.parameters.proofs.rows.row_at.Goals as goal
