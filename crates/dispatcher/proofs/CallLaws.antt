@@ -3,7 +3,8 @@ use Rattle.std.specs.Prelude.{◌≡◌, Bool, true, false, ℕ, ◌≤◌, ◌<
 use borrow.Author.Tests.{ltb-false, le-ltb, le-leb, lt-leb}
 use Rattle.integers.specs.TestLaws.{or-both}
 use Rattle.dispatcher.specs.declared.Dispatcher.{Dispatcher}
-use Rattle.dispatcher.specs.Dispatch.{outside, present, panels, with_panel, with_report, answer, register_of, report_of}
+use Rattle.dispatcher.specs.declared.Refusal.TheVariants.{TooMany, Present, NoPanel}
+use Rattle.dispatcher.specs.Dispatch.{outside, present, panels, with_panel, with_report, refused, taken, register_of, report_of}
 
 -- ---- 1 to 247
 
@@ -17,33 +18,33 @@ module _ (a : ℕ) where
 module _ (d : Dispatcher) (a : ℕ) where
   -- ---- a registration
 
-  pub register-outside : outside a ≡ true → register_of d a ≡ answer d 32
+  pub register-outside : outside a ≡ true → register_of d a ≡ refused d NoPanel
   unfolding register_of
   register-outside o = rw o
 
-  pub register-present : outside a ≡ false → present d a ≡ true → register_of d a ≡ answer d 29
+  pub register-present : outside a ≡ false → present d a ≡ true → register_of d a ≡ refused d Present
   unfolding register_of
   register-present o p = rw (o, p)
 
-  pub register-full : outside a ≡ false → present d a ≡ false → 32 ≤ panels d → register_of d a ≡ answer d 28
+  pub register-full : outside a ≡ false → present d a ≡ false → 32 ≤ panels d → register_of d a ≡ refused d TooMany
   unfolding register_of
   register-full o p m = rw (o, p, le-leb 32 (panels d) m)
 
-  pub register-joined : outside a ≡ false → present d a ≡ false → panels d < 32 → register_of d a ≡ answer (with_panel d a) 0
+  pub register-joined : outside a ≡ false → present d a ≡ false → panels d < 32 → register_of d a ≡ taken (with_panel d a)
   unfolding register_of
   register-joined o p m = rw (o, p, lt-leb 32 (panels d) m)
 
   -- ---- a report
 
   module _ (e : Bool) where
-    pub report-outside : outside a ≡ true → report_of d a e ≡ answer d 32
+    pub report-outside : outside a ≡ true → report_of d a e ≡ refused d NoPanel
     unfolding report_of
     report-outside o = rw o
 
-    pub report-unknown : outside a ≡ false → present d a ≡ false → report_of d a e ≡ answer d 32
+    pub report-unknown : outside a ≡ false → present d a ≡ false → report_of d a e ≡ refused d NoPanel
     unfolding report_of
     report-unknown o p = rw (o, p)
 
-    pub report-taken : outside a ≡ false → present d a ≡ true → report_of d a e ≡ answer (with_report d a e) 0
+    pub report-taken : outside a ≡ false → present d a ≡ true → report_of d a e ≡ taken (with_report d a e)
     unfolding report_of
     report-taken o p = rw (o, p)

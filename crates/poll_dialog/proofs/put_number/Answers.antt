@@ -1,7 +1,6 @@
 -- `poll_dialog::put_number` meets its contract: the word, and behind it the number and the newline.
 use native.Mathlib.Omega.{arith}
 use Rattle.text.specs.PutLaws.{put_both}
-use borrow.Author.Rules.{rules}
 use Rattle.poll_dialog.proofs.put_number.Goals as goal
 
 pub returns : goal.returns
