@@ -5,11 +5,10 @@ use Rattle.std.specs.Prelude.{Option, Some, None, is_none, ◌≡◌, refl, Bool
 use Rattle.std.proofs.Common.{arith, ltb-false, sym}
 use Rattle.std.proofs.lemmas.Option.{none-some}
 use Rattle.driverecord.proofs.NumberLaws.{empty-numbers}
-use Rattle.integers.specs.ChoiceLaws.{by-test, is_true, is_false}
+use Rattle.integers.specs.ChoiceLaws.{by-test, is_false}
 use Rattle.integers.specs.Limit.{Z}
 use Rattle.parameters.proofs.StoreLaws.{valid-offset, valid-preselection}
 use Rattle.settings.specs.declared.Action.{Action}
-use Rattle.settings.specs.declared.Action.TheVariants as Action
 use Rattle.settings.specs.declared.Action.TheVariants.{Reset, Freeze, ClearLocks, ClearExtremes, Teach}
 use Rattle.settings.specs.InputLaws.{aimed}
 use Rattle.settings.specs.Settings.{is_reset, is_teach, Aimed, input_at}
