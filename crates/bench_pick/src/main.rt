@@ -4,9 +4,6 @@
 // Uses `dispatcher` for the steps, `decimal` for the argument, and `ports` to read and write.
 #![tactic(auto)]
 
-ghost use Rattle.std.specs.Prelude.{◌≤◌};
-use dispatcher::{Answer, Choice, Dispatcher};
-use decimal::Parsed;
 use dispatcher::Dispatcher;
 use std::env::Env;
 

@@ -120,7 +120,8 @@ fn part(t: &[i32; 104], o: Outcome) -> u64 {
     let switches = l.switches;
     let values = raised(reading.result) + 3 * raised(l.shown);
     let rest = 7 * outs_part(panel::outputs(t, switches)) + 11 * drive_part(drive);
-    let told = 13 * (state::note_number(o.note) as u64) + 17 * (o.halves as u64);
+    let told = 13 * (state::note_number(o.note) as u64)
+        + 17 * (reading::halves_number(o.halves) as u64);
     values + rest + 5 * (measurement::error_number(error) as u64) + told
 }
 

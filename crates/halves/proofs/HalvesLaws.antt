@@ -19,8 +19,9 @@ use Rattle.parameters.specs.Slots.{with_offset}
 use Rattle.parameters.proofs.StoreLaws.{offset-stored}
 use Rattle.panel.specs.Step.{answer_of, on_telegram, step_of, switched_of, displayed_of}
 use Rattle.reading.specs.declared.Basis.{Basis}
+use Rattle.reading.specs.declared.Halves.{Halves}
 use Rattle.reading.specs.Follow.{basis_after}
-use Rattle.reading.specs.Reading.{accepts_of, measured_at, measurement_at, code_at, coded_at, reading_of, halves, in_scaling, in_linearization, in_analog, marks_of, halves_of}
+use Rattle.reading.specs.Reading.{accepts_of, measured_at, measurement_at, code_at, coded_at, reading_of, marks_of, halves_of}
 use Rattle.settings.specs.declared.Span.{Span}
 use Rattle.settings.specs.Settings.{scaling_of, points_of, span_of}
 use Rattle.state.specs.declared.State.{State}
@@ -49,24 +50,13 @@ code_same a r e =
 
 -- ---- a reading: without error its marks are those of the roundings
 
--- each mark is found again in the number
-read_back_lem : (s l a : Bool) → (in_scaling (halves s l a) ≡ s) × ((in_linearization (halves s l a) ≡ l) × (in_analog (halves s l a) ≡ a))
-read_back_lem true true true = (refl, (refl, refl))
-read_back_lem true true false = (refl, (refl, refl))
-read_back_lem true false true = (refl, (refl, refl))
-read_back_lem true false false = (refl, (refl, refl))
-read_back_lem false true true = (refl, (refl, refl))
-read_back_lem false true false = (refl, (refl, refl))
-read_back_lem false false true = (refl, (refl, refl))
-read_back_lem false false false = (refl, (refl, refl))
-
 marks-are : (t : List ℤ) (b : Basis) → (measured_at t b).error ≡ Error.None →
-    (in_scaling (halves_of t b) ≡ scaling_half (scaling_of t) b.start) × ((in_linearization (halves_of t b) ≡ line_half (scaling_of t) (points_of t) b.start) ×
-    (in_analog (halves_of t b) ≡ code_half (span_of t).format (span_of t).start (span_of t).end (measured_at t b).result))
+    ((halves_of t b).scaling ≡ scaling_half (scaling_of t) b.start) × (((halves_of t b).linearization ≡ line_half (scaling_of t) (points_of t) b.start) ×
+    ((halves_of t b).analog ≡ code_half (span_of t).format (span_of t).start (span_of t).end (measured_at t b).result))
 unfolding halves_of marks_of measurement_at measurement_of measured_at coded_at coded_of
-marks-are t b e = rw e (read_back_lem (scaling_half (scaling_of t) b.start) (line_half (scaling_of t) (points_of t) b.start) _)
+marks-are t b e = rw e (refl, (refl, refl))
 
-measured-same : (t : List ℤ) (b : Basis) → (measured_at t b).error ≡ Error.None → in_scaling (halves_of t b) ≡ false → in_linearization (halves_of t b) ≡ false →
+measured-same : (t : List ℤ) (b : Basis) → (measured_at t b).error ≡ Error.None → (halves_of t b).scaling ≡ false → (halves_of t b).linearization ≡ false →
     measured_up t b ≡ measured_at t b
 unfolding measured_up measured_at measured_of
 measured-same t b e x y =
@@ -100,12 +90,12 @@ unfolding scaling_half scaled_by
 unscaled s p e =
     rw (e, zero-distance p s.round_loop, zero-*ℤ (pos s.factor), ← zero-*ℤ (pos s.divider)) (multiple-no-half (pos 0) (pos s.divider))
 
-marks-unscaled : (x : Measurement) (analog : Bool) → x.scaling ≡ false → in_scaling (marks_of x analog) ≡ false
+marks-unscaled : (x : Measurement) (analog : Bool) → x.scaling ≡ false → (marks_of x analog).scaling ≡ false
 unfolding marks_of
 marks-unscaled x analog e =
-    by-test (eqb (error_number x.measured.error) 0) _ _ (λ (h : ℕ). in_scaling h ≡ false) (λ _. (read_back_lem x.scaling x.linearization analog).0 ∙ e) (λ _. refl)
+    by-test (eqb (error_number x.measured.error) 0) _ _ (λ (h : Halves). h.scaling ≡ false) (λ _. e) (λ _. refl)
 
-pub reset-unscaled : (s : State) → Good s → in_scaling (halves_in (reset_of s)) ≡ false
+pub reset-unscaled : (s : State) → Good s → (halves_in (reset_of s)).scaling ≡ false
 unfolding reset_of reread_of halves_of measurement_at measurement_of scaling_of
 reset-unscaled s g =
     let p = s.live.basis.start in

@@ -11,6 +11,7 @@ use Rattle.measurement.specs.Measure as measure
 use Rattle.panel.specs.declared.Answer.{Answer}
 use Rattle.panel.specs.Step as step
 use Rattle.parameters.specs.Rows as row
+use Rattle.reading.specs.declared.Halves.{Halves}
 use Rattle.reading.specs.Follow as follow
 use Rattle.reading.specs.Reading as reading
 use Rattle.reading.specs.Reading.{halves}
@@ -42,7 +43,7 @@ pub record Shown : Type 0 where
 
 pub record Both : Type 0 where
   pub ours : Shown
-  pub marks : ℕ
+  pub marks : Halves
   pub theirs : Shown
 
 abbrev shown : ℕ → ℤ → ℤ → Shown
@@ -51,7 +52,7 @@ shown e r z = record { error = e; result = r; code = z }
 abbrev answer : List ℤ → ℕ → Answer
 answer t w = step.step_of (state.fresh_of t) (Telegram w)
 
-abbrev both : Shown → ℕ → Shown → Both
+abbrev both : Shown → Halves → Shown → Both
 both o h u = record { ours = o; marks = h; theirs = u }
 
 -- their code is that of our result

@@ -5,14 +5,14 @@ use Rattle.std.specs.Prelude.{Option, Some, None, is_none, ◌≡◌, refl, Bool
 use Rattle.std.proofs.Common.{arith, ltb-false, sym}
 use Rattle.std.proofs.lemmas.Option.{none-some}
 use Rattle.driverecord.proofs.NumberLaws.{empty-numbers}
-use Rattle.integers.specs.ChoiceLaws.{by-test, is_true, is_false}
+use Rattle.integers.specs.ChoiceLaws.{by-test, is_false}
 use Rattle.integers.specs.Limit.{Z}
 use Rattle.parameters.proofs.StoreLaws.{valid-offset, valid-preselection}
 use Rattle.settings.specs.declared.Action.{Action}
-use Rattle.settings.specs.declared.Action.TheVariants as Action
 use Rattle.settings.specs.declared.Action.TheVariants.{Reset, Freeze, ClearLocks, ClearExtremes, Teach}
 use Rattle.settings.specs.InputLaws.{aimed}
 use Rattle.settings.specs.Settings.{is_reset, is_teach, Aimed, input_at}
+use Rattle.reading.specs.declared.Halves.{Halves}
 use Rattle.reading.specs.Reading.{no_halves}
 use Rattle.state.specs.declared.Refusal.{Refusal}
 use Rattle.state.specs.declared.Refusal.TheVariants.{OffsetOutOfRange, NothingToTake}
@@ -80,7 +80,7 @@ by-input l i x Q acts rests = by-test (edge_at x.state l i) _ x (λ (y : Acted).
 -- ---- the marks
 
 -- a refused command keeps them
-pub refused-keeps : (a : Action) (s : State) (h : ℕ) → is_none (refusal_of a s) ≡ false → marks_after a s h ≡ h
+pub refused-keeps : (a : Action) (s : State) (h : Halves) → is_none (refusal_of a s) ≡ false → marks_after a s h ≡ h
 unfolding marks_after
 refused-keeps a s h e = rw e (go (is_reset a))
   where
@@ -118,7 +118,7 @@ unfolding inputs_of commands_of
 all-inputs s l = refl
 
 -- K7: the marks after them
-unfoldable pub marks_up_to : ℕ → ℕ → Acted → ℕ
+unfoldable pub marks_up_to : ℕ → ℕ → Acted → Halves
 marks_up_to l zero x = no_halves
 marks_up_to l (suc n) x = marks_at l n (inputs_of l n x) (marks_up_to l n x)
 

@@ -8,6 +8,7 @@ use Rattle.settings.specs.declared.Action.{Action}
 use Rattle.settings.specs.declared.Action.TheVariants.{None, Reset, Freeze, ClearLocks, ClearExtremes, Teach}
 use Rattle.settings.specs.Settings.{is_reset}
 use Rattle.switching.specs.Switching.{all_unlocked}
+use Rattle.reading.specs.declared.Halves.{Halves}
 use Rattle.state.specs.declared.Extremes.{Extremes}
 use Rattle.state.specs.declared.Live.{Live}
 use Rattle.state.specs.declared.Outcome.{Outcome}
@@ -83,7 +84,7 @@ carried_out ClearExtremes s = clear_extremes_of s
 carried_out (Teach k) s = teach_of s k
 
 -- K7, "a reset carried out" brings the marks of its result; any other command leaves them
-unfoldable pub marks_after : Action → State → ℕ → ℕ
+unfoldable pub marks_after : Action → State → Halves → Halves
 marks_after a s h = cond (is_reset a && is_none (refusal_of a s)) (halves_in (reset_of s)) h
 
 -- a refused command changes nothing

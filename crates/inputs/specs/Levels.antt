@@ -5,6 +5,7 @@ use Rattle.std.specs.Option.{option_or}
 use Rattle.settings.specs.declared.Config.{Config}
 use Rattle.settings.specs.declared.Config.TheVariants.{Low, High, Rising, Falling}
 use Rattle.settings.specs.Settings.{input_at}
+use Rattle.reading.specs.declared.Halves.{Halves}
 use Rattle.reading.specs.Reading.{no_halves}
 use Rattle.state.specs.declared.Refusal.{Refusal}
 use Rattle.state.specs.declared.State.{State}
@@ -46,7 +47,7 @@ unfoldable pub input_of : ℕ → ℕ → Acted → Acted
 input_of l i x = cond (edge_at x.state l i) (input_acts i x) x
 
 -- K7: the marks after input i + 1, from those before it
-unfoldable pub marks_at : ℕ → ℕ → Acted → ℕ → ℕ
+unfoldable pub marks_at : ℕ → ℕ → Acted → Halves → Halves
 marks_at l i x h = cond (edge_at x.state l i) (marks_after (input_at x.state.table i).action x.state h) h
 
 -- "the actions of inputs 1, 2, 3 in that order"
@@ -58,5 +59,5 @@ abbrev pub some_input : (ℕ → Acted → Bool) → State → ℕ → Bool
 some_input does s l = does 0 (acted s no_note) || (does 1 (input_of l 0 (acted s no_note)) || does 2 (input_of l 1 (input_of l 0 (acted s no_note))))
 
 -- K7: the marks of the last reset carried out, none where there is none
-unfoldable pub marks_left : State → ℕ → ℕ
+unfoldable pub marks_left : State → ℕ → Halves
 marks_left s l = marks_at l 2 (input_of l 1 (input_of l 0 (acted s no_note))) (marks_at l 1 (input_of l 0 (acted s no_note)) (marks_at l 0 (acted s no_note) no_halves))

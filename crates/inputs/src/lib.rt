@@ -14,6 +14,7 @@ ghost use Rattle.inputs.specs.Commands.{acted, left_by, reset_refusal, reset_of,
 ghost use Rattle.inputs.specs.Levels.{high_at, on_rise, acts_on, edge_in, input_acts, commands_of, marks_left};
 ghost use Rattle.inputs.specs.Freeze.{lasts, freezes, frozen, shown_by};
 
+use reading::Halves;
 use settings::{Action, Config};
 use state::{Extremes, Live, Outcome, Refusal};
 
@@ -116,14 +117,14 @@ fn refusal(a: Action, t: &[i32; 104], l: Live) -> Option<Refusal>
 }
 
 // An outcome for which no result was worked out: the marks stay as they were.
-fn kept(live: Live, note: Option<Refusal>, halves: u8) -> Outcome
+fn kept(live: Live, note: Option<Refusal>, halves: Halves) -> Outcome
     ensures { result ≡ record { live = live; note = note; halves = halves } }
 {
     Outcome { live, note, halves }
 }
 
 // An action that is not refused, carried out; a reset alone brings marks.
-fn carry_out(a: Action, t: &mut [i32; 104], l: Live, halves: u8) -> Outcome
+fn carry_out(a: Action, t: &mut [i32; 104], l: Live, halves: Halves) -> Outcome
     requires { Valid t.old × (Aimed a × (refusal_of a (state_of t.old l) ≡ no_note)) }
     ensures is { left_by t.new result ≡ acted (carried_out a (state_of t.old l)) no_note }
     ensures marks { result.halves ≡ marks_after a (state_of t.old l) halves }
@@ -139,7 +140,7 @@ fn carry_out(a: Action, t: &mut [i32; 104], l: Live, halves: u8) -> Outcome
 }
 
 // A command: carried out, or refused.
-fn command(a: Action, t: &mut [i32; 104], l: Live, halves: u8) -> Outcome
+fn command(a: Action, t: &mut [i32; 104], l: Live, halves: Halves) -> Outcome
     requires { Valid t.old × Aimed a }
     ensures is { left_by t.new result ≡ command_of a (state_of t.old l) }
     ensures marks { result.halves ≡ marks_after a (state_of t.old l) halves }
@@ -220,7 +221,7 @@ pub fn act(t: &mut [i32; 104], l: Live, levels: u8) -> Outcome
     let mut x = Outcome {
         live: l,
         note: None,
-        halves: 0,
+        halves: reading::no_halves(),
     };
     for i in 0..3 {
         let n = x.live;

@@ -11,6 +11,7 @@ use Rattle.inputs.specs.Levels.{commands_of, marks_left}
 use Rattle.inputs.specs.Freeze.{frozen}
 use Rattle.events.specs.declared.Event.{Event}
 use Rattle.events.specs.declared.Event.TheVariants.{Telegram, Levels, Tick}
+use Rattle.reading.specs.declared.Halves.{Halves}
 use Rattle.reading.specs.Reading.{accepts_of, no_halves}
 use Rattle.settings.specs.Settings.{preselections_of}
 use Rattle.switching.specs.declared.Switch.{Switch}
@@ -25,7 +26,7 @@ abbrev pub outputs_in : List ℤ → List Switch → List Bool
 outputs_in t ss = outputs_of (preselections_of t) ss
 
 -- "carries the new state, the result, the shown value, error, output levels, drive and a note"; K7, "the event's answer gives the three marks"
-unfoldable pub answer_of : State → Option Refusal → ℕ → Answer
+unfoldable pub answer_of : State → Option Refusal → Halves → Answer
 answer_of s note halves =
     record {
       state = s;

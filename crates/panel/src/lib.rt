@@ -20,6 +20,7 @@ ghost use Rattle.panel.specs.Telegrams.{diagnosed_of, built_by};
 use analog::Drive;
 use events::Event;
 use measurement::Error;
+use reading::Halves;
 use ssi::{Built, Diagnosis};
 use state::{Live, Outcome, Refusal, State};
 use switching::Switch;
@@ -39,8 +40,8 @@ pub struct Answer {
     pub drive: Drive,
     // The refusal of the event or of its lowest refused input.
     pub note: Option<Refusal>,
-    // Where a half decided in the result that the event worked out: 1 for scaling, 2 for linearization, 4 for the analog code, added.
-    pub halves: u8,
+    // Where a half decided in the result that the event worked out.
+    pub halves: Halves,
 }
 
 // The levels of the outputs that a table and its switches give.
@@ -51,7 +52,7 @@ pub fn outputs(t: &[i32; 104], switches: [Switch; 4]) -> [bool; 4]
 }
 
 // The answer that a state gives, with a note and marks.
-pub fn answered(s: State, note: Option<Refusal>, halves: u8) -> Answer
+pub fn answered(s: State, note: Option<Refusal>, halves: Halves) -> Answer
     ensures { result ≡ answer_of s note halves }
 {
     let l = s.live;
@@ -87,7 +88,7 @@ fn switches_after(seen: bool, t: &[i32; 104], res: i32, switches: [Switch; 4]) -
 struct Begun {
     live: Live,
     note: Option<Refusal>,
-    halves: u8,
+    halves: Halves,
     // Whether switching and display follow: not after a refusal or a tick.
     settles: bool,
 }
@@ -99,7 +100,7 @@ fn refused(l: Live, why: Refusal) -> Begun
     Begun {
         live: l,
         note: Some(why),
-        halves: 0,
+        halves: reading::no_halves(),
         settles: false,
     }
 }
@@ -155,7 +156,7 @@ fn on_tick(l: Live, ms: u16) -> Begun
     Begun {
         live: next,
         note: None,
-        halves: 0,
+        halves: reading::no_halves(),
         settles,
     }
 }

@@ -1,7 +1,7 @@
 -- One reading under a table: a telegram gives the position after direction and whether its error bit reports; these become a result or an error, and the result drives
 -- the analog line. While a round loop is set the count U stands in the position's place (Follow).
 -- Paper 01, "From telegram to result" and "Analog value", held together; paper 02, K7, the marks beside a reading. Assumes nothing.
-use Rattle.std.specs.Prelude.{Bool, false, cond, List, ℕ, ◌+◌, ◌/◌, ◌%◌, eqb, ℤ}
+use Rattle.std.specs.Prelude.{Bool, false, cond, List, ℕ, ◌+◌, eqb, ℤ}
 use Rattle.analog.specs.declared.Drive.{Drive}
 use Rattle.analog.specs.declared.Drive.TheVariants.{Off}
 use Rattle.analog.specs.declared.Coded.{Coded}
@@ -18,6 +18,7 @@ use Rattle.settings.specs.Settings.{layout_of, scaling_of, points_of, span_of}
 use Rattle.ssi.specs.Telegram.{accepted, error_reported, position_of, width_of}
 use Rattle.reading.specs.declared.Basis.{Basis}
 use Rattle.reading.specs.declared.Reading.{Reading}
+use Rattle.reading.specs.declared.Halves.{Halves}
 use Rattle.reading.specs.declared.Marked.{Marked}
 
 -- Where each check sits, 11: accepted unless a bit above N is set
@@ -62,31 +63,25 @@ reading_of t b =
 
 -- ---- K7, where a half decided
 
--- the three marks as one number: 1 for scaling, 2 for linearization, 4 for the analog value
+-- the three marks, and none of them
+abbrev pub halves : Bool → Bool → Bool → Halves
+halves scaling linearization analog = record { scaling = scaling; linearization = linearization; analog = analog }
+
+abbrev pub no_halves : Halves
+no_halves = halves false false false
+
+-- as one number: 1 for scaling, 2 for linearization, 4 for the analog value, added
 abbrev pub mark : Bool → ℕ → ℕ
 mark half worth = cond half worth 0
 
-abbrev pub halves : Bool → Bool → Bool → ℕ
-halves scaling linearization analog = mark scaling 1 + mark linearization 2 + mark analog 4
-
-abbrev pub no_halves : ℕ
-no_halves = 0
-
--- each of them again
-abbrev pub in_scaling : ℕ → Bool
-in_scaling h = eqb (h % 2) 1
-
-abbrev pub in_linearization : ℕ → Bool
-in_linearization h = eqb (h / 2 % 2) 1
-
-abbrev pub in_analog : ℕ → Bool
-in_analog h = eqb (h / 4 % 2) 1
+abbrev pub halves_number : Halves → ℕ
+halves_number h = mark h.scaling 1 + mark h.linearization 2 + mark h.analog 4
 
 -- "Scaling, linearization and analog value each pass on their own"; "All three are no under an error"
-unfoldable pub marks_of : Measurement → Bool → ℕ
+unfoldable pub marks_of : Measurement → Bool → Halves
 marks_of x analog = cond (eqb (error_number x.measured.error) 0) (halves x.scaling x.linearization analog) no_halves
 
-unfoldable pub halves_of : List ℤ → Basis → ℕ
+unfoldable pub halves_of : List ℤ → Basis → Halves
 halves_of t b = marks_of (measurement_at t b) (coded_at (span_of t) (measured_at t b)).half
 
 -- a reading with its marks

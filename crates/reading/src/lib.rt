@@ -8,7 +8,7 @@ ghost use Rattle.measurement.specs.Sound as measurement;
 ghost use Rattle.ssi.specs.Sound.{Sound};
 ghost use Rattle.ssi.specs.Telegram.{modulus};
 ghost use Rattle.reading.specs.Follow.{count_after, held_of, basis_after};
-ghost use Rattle.reading.specs.Reading.{accepts_of, code_at, coded_at, drive_at, mark, marks_of, marked_of};
+ghost use Rattle.reading.specs.Reading.{accepts_of, code_at, coded_at, drive_at, no_halves, mark, halves_number, marks_of, marked_of};
 ghost use Rattle.reading.specs.ReadingWay.{basis_by, marked_by};
 
 use analog::{Coded, Drive};
@@ -41,12 +41,20 @@ pub struct Reading {
     pub drive: Drive,
 }
 
+// Where a half decided.
+#[derive(Clone, Copy)]
+pub struct Halves {
+    pub scaling: bool,
+    pub linearization: bool,
+    // In the code, before it is held.
+    pub analog: bool,
+}
+
 // A reading with its marks.
 #[derive(Clone, Copy)]
 pub struct Marked {
     pub reading: Reading,
-    // Where a half decided: 1 for scaling, 2 for linearization, 4 for the code before it is held, added.
-    pub halves: u8,
+    pub halves: Halves,
 }
 
 // Whether a telegram has no bit set above bit N.
@@ -140,6 +148,17 @@ fn driven(a: Span, m: Measured, code: i32) -> Drive
     Drive::Off
 }
 
+// No half decided.
+pub fn no_halves() -> Halves
+    ensures { result ≡ no_halves }
+{
+    Halves {
+        scaling: false,
+        linearization: false,
+        analog: false,
+    }
+}
+
 // A mark's worth, or 0.
 fn mark(half: bool, worth: u8) -> u8
     ensures { result ≡ mark half worth }
@@ -150,16 +169,27 @@ fn mark(half: bool, worth: u8) -> u8
     0
 }
 
+// The marks as one number: 1 for scaling, 2 for linearization, 4 for the analog code, added.
+pub fn halves_number(h: Halves) -> u8
+    ensures { result ≡ halves_number h }
+{
+    mark(h.scaling, 1) + mark(h.linearization, 2) + mark(h.analog, 4)
+}
+
 // The marks of a reading, with that of its code: none under an error.
-fn marks(x: Measurement, analog: bool) -> u8
+fn marks(x: Measurement, analog: bool) -> Halves
     ensures { result ≡ marks_of x analog }
 {
     let m = x.measured;
     let error = m.error;
     if measurement::error_number(error) == 0 {
-        return mark(x.scaling, 1) + mark(x.linearization, 2) + mark(analog, 4);
+        return Halves {
+            scaling: x.scaling,
+            linearization: x.linearization,
+            analog,
+        };
     }
-    0
+    no_halves()
 }
 
 // Result, error, code and drive of what a result starts from, and where a half decided, by the settings.

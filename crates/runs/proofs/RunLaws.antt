@@ -7,6 +7,7 @@ use Rattle.events.specs.declared.Event.TheVariants.{Telegram, Levels, Tick}
 use Rattle.integers.specs.ChoiceLaws.{by-test}
 use Rattle.reading.specs.Reading.{accepts_of}
 use Rattle.panel.specs.declared.Answer.{Answer}
+use Rattle.reading.specs.declared.Halves.{Halves}
 use Rattle.state.specs.declared.Refusal.{Refusal}
 use Rattle.state.specs.declared.State.{State}
 use Rattle.panel.specs.Step.{answer_of, on_telegram, on_levels, on_tick, step_of}
@@ -37,7 +38,7 @@ module _ (s : State) (es : List Event) (i : ℕ) where
 abbrev pub Own : Answer → Type 0
 Own a = a ≡ answer_of a.state a.note a.halves
 
-pub answer-own : (s : State) (n : Option Refusal) (halves : ℕ) → Own (answer_of s n halves)
+pub answer-own : (s : State) (n : Option Refusal) (halves : Halves) → Own (answer_of s n halves)
 unfolding answer_of
 answer-own s n halves = refl
 

@@ -57,7 +57,7 @@ pub fn run(table: &[i32], log: &[u64]) -> Ran
 {
     let l = panel::load(table);
     let s = l.state;
-    let first = panel::answered(s, None, 0);
+    let first = panel::answered(s, None, reading::no_halves());
     if l.refusal != 0 {
         return Ran {
             refusal: l.refusal,

@@ -13,6 +13,7 @@ use Rattle.panel.specs.Step as step
 use Rattle.parameters.specs.Rows as row
 use Rattle.reading.specs.Follow as follow
 use Rattle.reading.specs.Reading as reading
+use Rattle.reading.specs.Reading.{halves_number}
 use Rattle.settings.specs.Settings as settings
 use Rattle.ssi.specs.Telegram as ssi
 use Rattle.state.specs.Refusal.{note_number}
@@ -57,7 +58,7 @@ shown_of b =
       count = b.count;
       note = note_number b.answer.note;
       result = b.answer.result;
-      halves = b.answer.halves;
+      halves = halves_number b.answer.halves;
       locked = (switch_at b.answer.state.live.switches 0).locked;
       pulse = (switch_at b.answer.state.live.switches 1).pulse;
     }

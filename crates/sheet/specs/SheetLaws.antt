@@ -47,7 +47,7 @@ use Rattle.sheet.specs.LogWordLaws.{log-fits}
 use Rattle.events.specs.Bytes.{bytes_of}
 use Rattle.sheet.specs.LogWords.{is_log}
 use Rattle.sheet.specs.Orders.{word_named}
-use Rattle.sheet.specs.Sheet.{with_run, wrong_line, loaded_by, after_start, start_text, after_piece, piece_of, words_behind, after_log, log_text, full_end, numbers_text, build_text, read_text, diagnose_text, question_text, number_behind, answer_text, asked_text, given_by, after_cut, told_by, cut_text, extremes_text, after_event, event_text, after_plain, plain_text, after_word, word_text, after_line, line_text, room}
+use Rattle.sheet.specs.Sheet.{extremes_numbers, with_run, wrong_line, loaded_by, after_start, start_text, after_piece, piece_of, words_behind, after_log, log_text, full_end, numbers_text, build_text, read_text, diagnose_text, question_text, number_behind, answer_text, asked_text, given_by, after_cut, told_by, cut_text, extremes_text, after_event, event_text, after_plain, plain_text, after_word, word_text, after_line, line_text, room}
 
 -- ---- THE RUN THAT IS KEPT STAYS VALID
 

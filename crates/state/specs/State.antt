@@ -6,6 +6,7 @@ use Rattle.driverecord.specs.declared.DriveRecord.{DriveRecord}
 use Rattle.driverecord.specs.DriveRecord.{fresh_record, updated_of}
 use Rattle.measurement.specs.declared.Error.TheVariants as Error
 use Rattle.reading.specs.declared.Basis.{Basis}
+use Rattle.reading.specs.declared.Halves.{Halves}
 use Rattle.reading.specs.declared.Reading.{Reading}
 use Rattle.reading.specs.Follow.{no_basis, basis_after}
 use Rattle.reading.specs.Reading.{reading_of, halves_of}
@@ -102,7 +103,7 @@ abbrev pub read_again : State → Reading
 read_again s = reading_of s.table s.live.basis
 
 -- K7: the marks of that reading
-abbrev pub halves_in : State → ℕ
+abbrev pub halves_in : State → Halves
 halves_in s = halves_of s.table s.live.basis
 
 unfoldable pub reread_of : State → State

@@ -12,7 +12,7 @@ ghost use Rattle.state.specs.Extremes.{error_in, widened_of};
 ghost use Rattle.state.specs.Refusal.{refusal_number, note_number};
 
 use driverecord::DriveRecord;
-use reading::{Basis, Reading};
+use reading::{Basis, Halves, Reading};
 use switching::Switch;
 
 // The least and the greatest error-free result.
@@ -71,8 +71,8 @@ pub struct Outcome {
     pub live: Live,
     // The refusal of the event or of its lowest refused input.
     pub note: Option<Refusal>,
-    // Where a half decided in the result that it worked out: 1 for scaling, 2 for linearization, 4 for the analog code, added.
-    pub halves: u8,
+    // Where a half decided in the result that it worked out.
+    pub halves: Halves,
 }
 
 // The state of a loaded table before the first event.

@@ -30,6 +30,7 @@ use Rattle.parameters.specs.Valid.{Valid}
 use Rattle.parameters.proofs.ValidLaws.{loads}
 use Rattle.reading.specs.declared.Basis.{Basis}
 use Rattle.reading.specs.AlikeLaws.{accepts-alike, directed-alike}
+use Rattle.reading.specs.declared.Halves.{Halves}
 use Rattle.reading.specs.Follow.{count_after, followed_of, held_of, basis_after}
 use Rattle.reading.specs.FollowLaws.{by-follow}
 use Rattle.reading.specs.Reading.{accepts_of, directed_at, basis_of, no_halves}
@@ -262,7 +263,7 @@ module _ {t : List ℤ} (v : Valid t) (h : 0 < round_loop t) (c : ℕ) (multiple
             (subst (λ (z : ℤ). Tables R (with_preselection s.table j r) (with_preselection o.table j z)) (ap (λ (z : Reading). z.result) x.reading)
             (taught g.table.long x.tables j r m))
 
-    marks-tied : (a : Action) (marks : ℕ) → eqb (note_number (refusal_of a o)) 12 ≡ false → marks_after a s marks ≡ marks_after a o marks
+    marks-tied : (a : Action) (marks : Halves) → eqb (note_number (refusal_of a o)) 12 ≡ false → marks_after a s marks ≡ marks_after a o marks
     unfolding marks_after
     marks-tied a marks n = rw (← refusal-tied k x a n) (go a)
       where
@@ -272,7 +273,7 @@ module _ {t : List ℤ} (v : Valid t) (h : 0 < round_loop t) (c : ℕ) (multiple
         go ClearLocks = refl
         go ClearExtremes = refl
         go (Teach j) = refl
-        go Reset = both (is_none (refusal_of Reset s)) (halves_in (reset_of s)) marks (halves_in (reset_of o)) marks (λ (m n : ℕ). m ≡ n) reset-halves (λ _. refl)
+        go Reset = both (is_none (refusal_of Reset s)) (halves_in (reset_of s)) marks (halves_in (reset_of o)) marks (λ (m n : Halves). m ≡ n) reset-halves (λ _. refl)
 
   -- ---- an input, and the three of them
 
@@ -300,11 +301,11 @@ module _ {t : List ℤ} (v : Valid t) (h : 0 < round_loop t) (c : ℕ) (multiple
         (λ e. let w = command-tied g k z.state (input_at table i).action (input-aimed table i) (unbarred e) in
         rw (← action-tied, z.note) (record { state = w.state; note = rw w.note })) (λ _. z))
 
-    marks-at : (marks : ℕ) → marks_at l i x marks ≡ marks_at l i y marks
+    marks-at : (marks : Halves) → marks_at l i x marks ≡ marks_at l i y marks
     unfolding marks_at
     marks-at marks =
         rw (edge-tied, ← action-tied)
-        (both (edge_at y.state l i) _ marks _ marks (λ (m n : ℕ). m ≡ n) (λ e. marks-tied g k z.state (input_at table i).action marks (unbarred e)) (λ _. refl))
+        (both (edge_at y.state l i) _ marks _ marks (λ (m n : Halves). m ≡ n) (λ e. marks-tied g k z.state (input_at table i).action marks (unbarred e)) (λ _. refl))
 
   module _ (s o : State) (l : ℕ) (g : Good s) (k : Kept t s) (x : Ties s o)
       (n₀ : barred_at l 0 (acted o no_note) ≡ false)
@@ -354,7 +355,7 @@ module _ {t : List ℤ} (v : Valid t) (h : 0 < round_loop t) (c : ℕ) (multiple
     same : Same a b
     state : Ties a.state b.state
 
-  stepped : {s o : State} → Ties s o → (n n' : Option Refusal) (halves halves' : ℕ) → n ≡ n' → halves ≡ halves' → Stepped (answer_of s n halves) (answer_of o n' halves')
+  stepped : {s o : State} → Ties s o → (n n' : Option Refusal) (halves halves' : Halves) → n ≡ n' → halves ≡ halves' → Stepped (answer_of s n halves) (answer_of o n' halves')
   unfolding answer_of
   stepped x n n' halves halves' e f = record { same = answer-tied x n n' halves halves' e f; state = x }
 

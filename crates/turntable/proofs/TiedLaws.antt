@@ -16,6 +16,7 @@ use Rattle.parameters.specs.Alike.{Alike, stored_slot}
 use Rattle.parameters.specs.Slots.{nat_at, offset, round_loop, preselection}
 use Rattle.parameters.proofs.StoreLaws.{stored-span, stored-points, stored-input, stored-preselection}
 use Rattle.reading.specs.declared.Basis.{Basis}
+use Rattle.reading.specs.declared.Halves.{Halves}
 use Rattle.reading.specs.Reading.{measured_at, measurement_at, reading_of, no_halves, marks_of, halves_of}
 use Rattle.settings.specs.AlikeLaws.{points-alike, span-alike, input-alike, preselections-alike}
 use Rattle.settings.specs.Settings.{scaling_of, points_of, span_of, preselections_of, input_at}
@@ -179,7 +180,7 @@ module _ {R : ℕ} {s o : State} (x : Tied R s o) where
   unfolding displayed_of switched_of
   settled-tied = tied x.tables x.basis x.levels x.seen x.reading shown-tied x.extremes x.driven switches-tied
 
-  pub answer-tied : (n n' : Option Refusal) (halves halves' : ℕ) → n ≡ n' → halves ≡ halves' → Same (answer_of s n halves) (answer_of o n' halves')
+  pub answer-tied : (n n' : Option Refusal) (halves halves' : Halves) → n ≡ n' → halves ≡ halves' → Same (answer_of s n halves) (answer_of o n' halves')
   unfolding answer_of
   answer-tied n n' halves halves' e f =
       record {

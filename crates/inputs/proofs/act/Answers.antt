@@ -12,7 +12,7 @@ use Rattle.inputs.proofs.act.Goals as goal
 
 pub loop-i-init : goal.loop-i-init
 unfolding inputs_of marks_up_to
-loop-i-init c = (refl, refl)
+loop-i-init c = (refl, c.no_halves.ensures)
 
 pub edge-requires : goal.edge-requires
 edge-requires c = omega arith

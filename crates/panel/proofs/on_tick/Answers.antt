@@ -6,4 +6,4 @@ recorded-next-requires c = rw c.with_switches.ensures c.requires
 
 pub returns : goal.returns
 returns c = let n = c in
-    rw (c.recorded-next.ensures, n.with_switches.ensures, n.tick_all.ensures)
+    rw (c.recorded-next.ensures, n.with_switches.ensures, n.tick_all.ensures, c.no_halves.ensures)

@@ -12,7 +12,7 @@ returns-then-l-ne0 c = let l = c.load-l in
     let a = c.answered-first in
     let s = c.args in
     let n : (loaded_of s.table.now).refusal ≡ 0 → ⊥ = λ z. c.if-l-ne0.true (ap (λ (x : Loaded). x.refusal) l.ensures.is ∙ z) in
-    rw (a.ensures, l.ensures.is) (record { is = refused-run s.table.now (events_in s.log.now) n; demand3 = refused-promise s.table.now (events_in s.log.now) _ n })
+    rw (a.ensures, c.no_halves.ensures, l.ensures.is) (record { is = refused-run s.table.now (events_in s.log.now) n; demand3 = refused-promise s.table.now (events_in s.log.now) _ n })
 
 pub run_on-last-requires : goal.run_on-last-requires
 unfolding answer_of
@@ -24,7 +24,7 @@ returns c = let b = c in
     let l = b.load-l in
     let s = b.args in
     let z : (loaded_of s.table.now).refusal ≡ 0 = ap (λ (x : Loaded). x.refusal) (sym l.ensures.is) ∙ c.if-l-ne0.false in
-    let e = rw (b.answered-first.ensures, l.ensures.is) at c.run_on-last.ensures.is in
+    let e = rw (b.answered-first.ensures, b.no_halves.ensures, l.ensures.is) at c.run_on-last.ensures.is in
     let last = e ∙ loaded-last s.table.now (events_in s.log.now) z in
     record {
       is = loaded-run s.table.now (events_in s.log.now) _ z last;
