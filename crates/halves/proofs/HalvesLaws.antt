@@ -1,6 +1,6 @@
 -- The law of marks, proved: a reading without error and without the two marks is the other firmware's, by the law of halves of one rounding, twice; and so its code.
 -- Request K7. Assumes nothing.
-use Rattle.std.specs.Prelude.{◌≡◌, refl, Bool, true, false, List, ℕ, zero, suc, eqb, ℤ, pos, ◌+ℤ◌, ◌*ℤ◌}
+use Rattle.std.specs.Prelude.{None, ◌≡◌, refl, Bool, true, false, List, ℕ, zero, suc, eqb, ℤ, pos, ◌+ℤ◌, ◌*ℤ◌}
 use Rattle.std.proofs.Common.{sym, ap, ◌∙◌, mod-eq_of_lt, arith, ne_eqb}
 use Rattle.std.proofs.Math.IntN.{+ℤ_invr, zero-*ℤ}
 use Rattle.analog.specs.AnalogCode.{fraction, full_scale, lowest, held, on_scale, code_of, code_half, coded_of}
@@ -9,7 +9,6 @@ use Rattle.integers.specs.Fraction.{whole}
 use Rattle.integers.specs.Round.{rounding, floor_mod}
 use Rattle.integers.proofs.HalfLaws.{multiple-no-half}
 use Rattle.integers.proofs.UpwardLaws.{up_same}
-use Rattle.measurement.specs.declared.Error.{Error}
 use Rattle.measurement.specs.declared.Measurement.{Measurement}
 use Rattle.measurement.specs.declared.Scaling.{Scaling}
 use Rattle.measurement.specs.Curve.{curve, linearized_of, linearized_by}
@@ -60,13 +59,13 @@ read_back_lem false true false = (refl, (refl, refl))
 read_back_lem false false true = (refl, (refl, refl))
 read_back_lem false false false = (refl, (refl, refl))
 
-marks-are : (t : List ℤ) (b : Basis) → (measured_at t b).error ≡ Error.None →
+marks-are : (t : List ℤ) (b : Basis) → (measured_at t b).error ≡ None →
     (in_scaling (halves_of t b) ≡ scaling_half (scaling_of t) b.start) × ((in_linearization (halves_of t b) ≡ line_half (scaling_of t) (points_of t) b.start) ×
     (in_analog (halves_of t b) ≡ code_half (span_of t).format (span_of t).start (span_of t).end (measured_at t b).result))
 unfolding halves_of marks_of measurement_at measurement_of measured_at coded_at coded_of
 marks-are t b e = rw e (read_back_lem (scaling_half (scaling_of t) b.start) (line_half (scaling_of t) (points_of t) b.start) _)
 
-measured-same : (t : List ℤ) (b : Basis) → (measured_at t b).error ≡ Error.None → in_scaling (halves_of t b) ≡ false → in_linearization (halves_of t b) ≡ false →
+measured-same : (t : List ℤ) (b : Basis) → (measured_at t b).error ≡ None → in_scaling (halves_of t b) ≡ false → in_linearization (halves_of t b) ≡ false →
     measured_up t b ≡ measured_at t b
 unfolding measured_up measured_at measured_of
 measured-same t b e x y =
