@@ -1,7 +1,7 @@
 -- FORWARD MEANS FORWARD, proved. Each step from position to result keeps the order of what it is given: the distance, the scaling with its rounding, the curve, the
 -- rounding of its value; and so does their chain. One argument for the three modes of linearization: which one it is matters to the curve alone (RisingLaws).
 -- Runs at equal offset read as under one table, and between resets a run keeps its offset. Request K14. Assumes nothing.
-use Rattle.std.specs.Prelude.{◌≡◌, refl, Bool, true, false, not, List, [], ◌∷◌, ◌++◌, ℕ, zero, suc, ◌+◌, ◌≤◌, ◌<◌, T, eqb, ltb, leb, ℤ, pos, ◌*ℤ◌, length, ◌≤ℤ◌, ◌<ℤ◌}
+use Rattle.std.specs.Prelude.{None, ◌≡◌, refl, Bool, true, false, not, List, [], ◌∷◌, ◌++◌, ℕ, zero, suc, ◌+◌, ◌≤◌, ◌<◌, T, eqb, ltb, leb, ℤ, pos, ◌*ℤ◌, length, ◌≤ℤ◌, ◌<ℤ◌}
 use Rattle.std.proofs.Common.{sym, ap, subst, ◌∙◌, add-one, arith, eq-eqb, ne_eqb, lt-ltb}
 use Rattle.std.specs.Int.Signed.{le_z, lt_z}
 use Rattle.events.specs.declared.Event.{Event}
@@ -15,7 +15,6 @@ use Rattle.integers.specs.RingLaws.{var, lit, ◌⊕◌, ◌⊖◌, ◌⊗◌, l
 use Rattle.integers.specs.Round.{round_div}
 use Rattle.integers.proofs.RoundLaws.{round_mono}
 use Rattle.integers.specs.TestLaws.{or-both, and_second}
-use Rattle.measurement.specs.declared.Error.TheVariants as Error
 use Rattle.measurement.specs.declared.Scaling.{Scaling}
 use Rattle.measurement.proofs.AccuracyLaws.{curve-low, no-error}
 use Rattle.measurement.specs.Curve.{Point, point_at, points_from, curve, linearized_of, Ordered}
@@ -75,7 +74,7 @@ module _ (s : Scaling) (ws : List ℤ) (no_loop : s.round_loop ≡ 0) (o : Order
       (scaled-mono _ _ s.factor s.divider s.additive (distance-mono p p' s.offset s.round_loop no_loop h))
 
   -- without error the result is the value
-  measured-mono : (p p' : ℕ) (b b' : Bool) → p ≤ p' → (measured_of s ws p b).error ≡ Error.None → (measured_of s ws p' b').error ≡ Error.None →
+  measured-mono : (p p' : ℕ) (b b' : Bool) → p ≤ p' → (measured_of s ws p b).error ≡ None → (measured_of s ws p' b').error ≡ None →
       (measured_of s ws p b).result ≤ℤ (measured_of s ws p' b').result
   unfolding measured_of
   measured-mono p p' b b' h k k' =
@@ -125,7 +124,7 @@ readings t f w w' h =
 
 -- what may be told where digits ran back though direction is forward and there is no round loop: the y falls somewhere
 pub then-falls : (t : List ℤ) → load_refusal t ≡ 0 → slot.direction t ≡ 0 → slot.round_loop t ≡ 0 → (w w' : ℕ) → position_at t w ≤ position_at t w' →
-    (reading_at t w).error ≡ Error.None → (reading_at t w').error ≡ Error.None → (reading_at t w').result <ℤ (reading_at t w).result → y_falls t ≡ true
+    (reading_at t w).error ≡ None → (reading_at t w').error ≡ None → (reading_at t w').result <ℤ (reading_at t w).result → y_falls t ≡ true
 then-falls t e d l w w' h k k' back = go (y_falls t) refl
   where
     go : (b : Bool) → y_falls t ≡ b → b ≡ true

@@ -2,12 +2,11 @@
 -- (with linearization off nobody asks for the points). Then digits never run back while the carriage moves on: whatever happens between two telegrams, if
 -- nobody resets and neither shows an error, the one at the greater position never gives the smaller result.
 -- Request K14. This file is definitions only; `readings`, `runs` and `telegrams` of ForwardLaws prove it, and Cases shows that every condition is needed.
-use Rattle.std.specs.Prelude.{◌≡◌, Bool, false, not, ◌&&◌, ◌||◌, List, [], ◌∷◌, ◌++◌, ℕ, ◌+◌, ◌≤◌, T, eqb, ltb, leb, ℤ, ◌≤ℤ◌}
+use Rattle.std.specs.Prelude.{None, ◌≡◌, Bool, false, not, ◌&&◌, ◌||◌, List, [], ◌∷◌, ◌++◌, ℕ, ◌+◌, ◌≤◌, T, eqb, ltb, leb, ℤ, ◌≤ℤ◌}
 use Rattle.std.specs.Int.Signed.{lt_z}
 use Rattle.events.specs.declared.Event.{Event}
 use Rattle.events.specs.declared.Event.TheVariants.{Telegram, Levels, Tick}
 use Rattle.integers.specs.Choice.{some}
-use Rattle.measurement.specs.declared.Error.TheVariants as Error
 use Rattle.parameters.specs.Load.{load_refusal}
 use Rattle.parameters.specs.Slots.{direction, round_loop, linearization, points_in_use, point_y}
 use Rattle.reading.specs.declared.Reading.{Reading}
@@ -47,7 +46,7 @@ reading_at t w = reading_of t (basis_of t w)
 -- "a greater p never gives a smaller result, errors left aside"
 abbrev pub ForwardReadings : Type 0
 ForwardReadings = (t : List ℤ) → Forward t → (w w' : ℕ) → position_at t w ≤ position_at t w' →
-    (reading_at t w).error ≡ Error.None → (reading_at t w').error ≡ Error.None → (reading_at t w).result ≤ℤ (reading_at t w').result
+    (reading_at t w).error ≡ None → (reading_at t w').error ≡ None → (reading_at t w).result ≤ℤ (reading_at t w').result
 
 -- ---- of runs: two runs of one table, or two moments of one run, at equal offset by the book
 
@@ -55,7 +54,7 @@ ForwardReadings = (t : List ℤ) → Forward t → (w w' : ℕ) → position_at 
 abbrev pub ForwardRuns : Type 0
 ForwardRuns = (t : List ℤ) → Forward t → (es es' : List Event) → T (book_of t es).seen → T (book_of t es').seen → (book_of t es).offset ≡ (book_of t es').offset →
     position_at t (book_of t es).telegram ≤ position_at t (book_of t es').telegram →
-    (last_answer t es).error ≡ Error.None → (last_answer t es').error ≡ Error.None → (last_answer t es).result ≤ℤ (last_answer t es').result
+    (last_answer t es).error ≡ None → (last_answer t es').error ≡ None → (last_answer t es).result ≤ℤ (last_answer t es').result
 
 -- ---- of two telegrams of one run between resets
 
@@ -80,5 +79,5 @@ answer_to t es w = last_answer t (followed_by es w)
 -- both are accepted, and no event between them carries a reset out
 abbrev pub ForwardTelegrams : Type 0
 ForwardTelegrams = (t : List ℤ) → Forward t → (es between : List Event) (w w' : ℕ) → T (accepts_of t w) → T (accepts_of t w') → reset_in t (book_of t (followed_by es w)) between ≡ false →
-    position_at t w ≤ position_at t w' → (answer_to t es w).error ≡ Error.None → (answer_to t (followed_by es w ++ between) w').error ≡ Error.None →
+    position_at t w ≤ position_at t w' → (answer_to t es w).error ≡ None → (answer_to t (followed_by es w ++ between) w').error ≡ None →
     (answer_to t es w).result ≤ℤ (answer_to t (followed_by es w ++ between) w').result

@@ -1,6 +1,6 @@
 -- The law of marks, proved: a reading without error and without the two marks is the other firmware's, by the law of halves of one rounding, twice; and so its code.
 -- Request K7. Assumes nothing.
-use Rattle.std.specs.Prelude.{◌≡◌, refl, Bool, true, false, List, ℕ, zero, suc, eqb, ℤ, pos, ◌+ℤ◌, ◌*ℤ◌}
+use Rattle.std.specs.Prelude.{None, ◌≡◌, refl, Bool, true, false, List, ℕ, zero, suc, eqb, ℤ, pos, ◌+ℤ◌, ◌*ℤ◌}
 use Rattle.std.proofs.Common.{sym, ap, ◌∙◌, mod-eq_of_lt, arith, ne_eqb}
 use Rattle.std.proofs.Math.IntN.{+ℤ_invr, zero-*ℤ}
 use Rattle.analog.specs.AnalogCode.{fraction, full_scale, lowest, held, on_scale, code_of, code_half, coded_of}
@@ -9,7 +9,6 @@ use Rattle.integers.specs.Fraction.{whole}
 use Rattle.integers.specs.Round.{rounding, floor_mod}
 use Rattle.integers.proofs.HalfLaws.{multiple-no-half}
 use Rattle.integers.proofs.UpwardLaws.{up_same}
-use Rattle.measurement.specs.declared.Error.{Error}
 use Rattle.measurement.specs.declared.Measurement.{Measurement}
 use Rattle.measurement.specs.declared.Scaling.{Scaling}
 use Rattle.measurement.specs.Curve.{curve, linearized_of, linearized_by}
@@ -50,13 +49,13 @@ code_same a r e =
 
 -- ---- a reading: without error its marks are those of the roundings
 
-marks-are : (t : List ℤ) (b : Basis) → (measured_at t b).error ≡ Error.None →
+marks-are : (t : List ℤ) (b : Basis) → (measured_at t b).error ≡ None →
     ((halves_of t b).scaling ≡ scaling_half (scaling_of t) b.start) × (((halves_of t b).linearization ≡ line_half (scaling_of t) (points_of t) b.start) ×
     ((halves_of t b).analog ≡ code_half (span_of t).format (span_of t).start (span_of t).end (measured_at t b).result))
 unfolding halves_of marks_of measurement_at measurement_of measured_at coded_at coded_of
 marks-are t b e = rw e (refl, (refl, refl))
 
-measured-same : (t : List ℤ) (b : Basis) → (measured_at t b).error ≡ Error.None → (halves_of t b).scaling ≡ false → (halves_of t b).linearization ≡ false →
+measured-same : (t : List ℤ) (b : Basis) → (measured_at t b).error ≡ None → (halves_of t b).scaling ≡ false → (halves_of t b).linearization ≡ false →
     measured_up t b ≡ measured_at t b
 unfolding measured_up measured_at measured_of
 measured-same t b e x y =

@@ -2,9 +2,8 @@
 -- neither the mark of scaling nor that of linearization is set, a panel that rounds halves upward shows the same for this telegram, and where the analog mark is
 -- not set it drives the same code: look for another slot, not for another rounding.
 -- Request K7. This file is definitions only; `told` of HalvesLaws proves it, and Cases shows that a mark matters and that "without error" is needed.
-use Rattle.std.specs.Prelude.{◌≡◌, false, ℕ, T}
+use Rattle.std.specs.Prelude.{None, ◌≡◌, false, ℕ, T}
 use Rattle.events.specs.declared.Event.TheVariants.{Telegram}
-use Rattle.measurement.specs.declared.Error.TheVariants as Error
 use Rattle.measurement.specs.Measure.{measured}
 use Rattle.panel.specs.declared.Answer.{Answer}
 use Rattle.panel.specs.Step.{step_of}
@@ -17,10 +16,10 @@ use Rattle.halves.specs.Upward.{measured_up, code_up}
 -- an answer to a telegram under a state's table, and what the other firmware has for it
 pub record NotTheRounding (s : State) (w : ℕ) (a : Answer) : Type 0 where
   -- neither mark of the digits: the same result, and no error
-  pub result : a.error ≡ Error.None → a.halves.scaling ≡ false → a.halves.linearization ≡ false →
-      measured_up s.table (basis_after s.table s.live.basis w) ≡ measured a.result Error.None
+  pub result : a.error ≡ None → a.halves.scaling ≡ false → a.halves.linearization ≡ false →
+      measured_up s.table (basis_after s.table s.live.basis w) ≡ measured a.result None
   -- no analog mark: the same code of that result
-  pub code : a.error ≡ Error.None → a.halves.analog ≡ false → code_up (span_of s.table) a.result ≡ a.state.live.reading.code
+  pub code : a.error ≡ None → a.halves.analog ≡ false → code_up (span_of s.table) a.result ≡ a.state.live.reading.code
 
 -- of every state, and so of every table that loads and of whatever came before; a telegram that is accepted
 abbrev pub HalvesTold : Type 0

@@ -1,6 +1,6 @@
 -- Demand 3's accuracy, for one reading: a result without error lies within 1/2 + S/2 of L(E), and with linearization off within 1/2 (S is 0 there).
 -- The scaling rounds once, by at most 1/2; the curve carries that on by at most S times as much and rounds once more. Assumes nothing.
-use Rattle.std.specs.Prelude.{◌≡◌, refl, Bool, List, [], ◌∷◌, ℕ, zero, suc, ◌+◌, ◌*◌, ◌≤◌, ◌<◌, ℤ, pos, neg_ℤ, nat_abs, ◌*ℤ◌}
+use Rattle.std.specs.Prelude.{None, Some, ◌≡◌, refl, Bool, List, [], ◌∷◌, ℕ, zero, suc, ◌+◌, ◌*◌, ◌≤◌, ◌<◌, ℤ, pos, neg_ℤ, nat_abs, ◌*ℤ◌}
 use Rattle.std.proofs.Common.{sym, ap, subst, mul-le-mul_right, le_of_mul-le-mul_right, mul-pos, arith}
 use Rattle.std.specs.Int.Signed.{lt_z}
 use Rattle.integers.specs.Limit.{Z}
@@ -88,20 +88,20 @@ accuracy m ps o d f g A h =
     record { near = near-curve m ps o d f g A h; u-low = curve-low m ps o (exact d f g A) h; S-low = steepest-above m ps o }
 
 -- without error the result is the value
-pub no-error : (b : Bool) (v : ℤ) → (judged_of b v).error ≡ Error.None → (judged_of b v).result ≡ v
+pub no-error : (b : Bool) (v : ℤ) → (judged_of b v).error ≡ None → (judged_of b v).result ≡ v
 unfolding judged_of
 no-error b v =
-    by-test b (measured (pos 0) Error.ErrorBit) _ Q (λ _ e. absurd (omega (arith, ap error_number e)))
-    (λ _. by-test (lt_z (pos Z) v) (measured (pos 0) Error.AboveRange) _ Q (λ _ e. absurd (omega (arith, ap error_number e)))
-    (λ _. by-test (lt_z v (neg_ℤ (pos Z))) (measured (pos 0) Error.BelowRange) (measured v Error.None) Q (λ _ e. absurd (omega (arith, ap error_number e))) (λ _ e. refl)))
+    by-test b (measured (pos 0) (Some Error.ErrorBit)) _ Q (λ _ e. absurd (omega (arith, ap error_number e)))
+    (λ _. by-test (lt_z (pos Z) v) (measured (pos 0) (Some Error.AboveRange)) _ Q (λ _ e. absurd (omega (arith, ap error_number e)))
+    (λ _. by-test (lt_z v (neg_ℤ (pos Z))) (measured (pos 0) (Some Error.BelowRange)) (measured v None) Q (λ _ e. absurd (omega (arith, ap error_number e))) (λ _ e. refl)))
   where
     Q : Measured → Type 0
-    Q m = m.error ≡ Error.None → m.result ≡ v
+    Q m = m.error ≡ None → m.result ≡ v
 
 -- ---- the law
 
 pub reading-accurate : (s : Scaling) (ws : List ℤ) (p : ℕ) (reported : Bool) → 0 < s.divider → Ordered s.linearization (used_points s ws) →
-    (measured_of s ws p reported).error ≡ Error.None →
+    (measured_of s ws p reported).error ≡ None →
     Accurate (measured_of s ws p reported).result (exact_curve s ws p) (steepest s.linearization (used_points s ws))
 unfolding measured_of value_of exact_curve exact_of
 reading-accurate s ws p reported h o e =

@@ -1,6 +1,6 @@
 -- From position to result: steps 1 to 3 and 5 of paper 01, "From telegram to result" (step 4 is in Curve), and the exact value E.
 -- Assumes nothing.
-use Rattle.std.specs.Prelude.{ℕ, ◌-◌, ◌%◌, ◌^◌, Bool, cond, List, eqb, ℤ, pos, neg_ℤ, ◌+ℤ◌, ◌-ℤ◌, ◌*ℤ◌}
+use Rattle.std.specs.Prelude.{Option, None, Some, ℕ, ◌-◌, ◌%◌, ◌^◌, Bool, cond, List, eqb, ℤ, pos, neg_ℤ, ◌+ℤ◌, ◌-ℤ◌, ◌*ℤ◌}
 use Rattle.std.specs.Int.Signed.{lt_z}
 use Rattle.integers.specs.Limit.{Z}
 use Rattle.integers.specs.declared.Rounded.{Rounded}
@@ -31,23 +31,23 @@ scaled_by d factor divider A = record { value = scaled_of d factor divider A; ha
 abbrev pub exact : ℤ → ℕ → ℕ → ℤ → Frac
 exact d factor divider A = record { num = d *ℤ pos factor +ℤ A *ℤ pos divider; den = divider }
 
--- step 5, errors: the paper's number of each
-abbrev pub error_number : Error → ℕ
-error_number Error.None = 0
-error_number Error.AboveRange = 1
-error_number Error.BelowRange = 2
-error_number Error.ErrorBit = 3
+-- step 5, errors: the paper's number of each, 0 for none
+abbrev pub error_number : Option Error → ℕ
+error_number None = 0
+error_number (Some Error.AboveRange) = 1
+error_number (Some Error.BelowRange) = 2
+error_number (Some Error.ErrorBit) = 3
 
-abbrev pub measured : ℤ → Error → Measured
+abbrev pub measured : ℤ → Option Error → Measured
 measured r e = record { result = r; error = e }
 
 -- step 5: error 3 when the error bit is at its error level; else 1 above Z, 2 below −Z; under an error the result is 0
 unfoldable pub judged_of : Bool → ℤ → Measured
 judged_of reported v =
-    cond reported (measured (pos 0) Error.ErrorBit)
-    (cond (lt_z (pos Z) v) (measured (pos 0) Error.AboveRange)
-    (cond (lt_z v (neg_ℤ (pos Z))) (measured (pos 0) Error.BelowRange)
-    (measured v Error.None)))
+    cond reported (measured (pos 0) (Some Error.ErrorBit))
+    (cond (lt_z (pos Z) v) (measured (pos 0) (Some Error.AboveRange))
+    (cond (lt_z v (neg_ℤ (pos Z))) (measured (pos 0) (Some Error.BelowRange))
+    (measured v None)))
 
 -- ---- the steps together, for a position after direction. `ws` holds the points, x then y
 

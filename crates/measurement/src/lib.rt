@@ -14,8 +14,6 @@ use integers::Rounded;
 // What is wrong with a reading.
 #[derive(Clone, Copy)]
 pub enum Error {
-    // Nothing.
-    None,
     // The value is above 99,999,999.
     AboveRange,
     // The value is below -99,999,999.
@@ -25,22 +23,23 @@ pub enum Error {
 }
 
 // The number of an error, 0 for none.
-pub fn error_number(e: Error) -> u32
+pub fn error_number(e: Option<Error>) -> u32
     ensures { result ≡ error_number e }
 {
     match e {
-        Error::None => 0,
-        Error::AboveRange => 1,
-        Error::BelowRange => 2,
-        Error::ErrorBit => 3,
+        None => 0,
+        Some(Error::AboveRange) => 1,
+        Some(Error::BelowRange) => 2,
+        Some(Error::ErrorBit) => 3,
     }
 }
 
-// The result of a reading, 0 under an error.
+// The result of a reading, 0 under an error, and what is wrong with it.
+// Kept: the pair, no `Result`, since the switches, the shown value and the analog code take the 0 under an error as any other result.
 #[derive(Clone, Copy)]
 pub struct Measured {
     pub result: i32,
-    pub error: Error,
+    pub error: Option<Error>,
 }
 
 // A reading, and where a half decided on the way to it, whatever its error.
@@ -112,9 +111,12 @@ fn scaled(d: i64, factor: u32, divider: u32, additive: i32) -> Rounded
 
 // What is measured under an error: the result is 0.
 fn faulty(error: Error) -> Measured
-    ensures { result ≡ measured (pos 0) error }
+    ensures { result ≡ measured (pos 0) (Some error) }
 {
-    Measured { result: 0, error }
+    Measured {
+        result: 0,
+        error: Some(error),
+    }
 }
 
 // Step 5: the error bit first, then the range.
@@ -133,7 +135,7 @@ fn judged(reported: bool, v: i64) -> Measured
     let result = v as i32;
     Measured {
         result,
-        error: Error::None,
+        error: None,
     }
 }
 

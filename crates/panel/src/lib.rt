@@ -34,7 +34,7 @@ pub struct Answer {
     pub result: i32,
     // The shown value, held by a freeze.
     pub shown: i32,
-    pub error: Error,
+    pub error: Option<Error>,
     // The levels of outputs 1 to 4, true for high.
     pub outputs: [bool; 4],
     pub drive: Drive,

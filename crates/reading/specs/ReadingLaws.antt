@@ -1,7 +1,7 @@
 -- For every table that loads: a reading without error lies within 1/2 + S/2 of L(E), within 1/2 with linearization off, and every result is from −Z to Z,
 -- 0 under an error; its drive is that of its code, or off.
 -- Paper 01, demand 3's accuracy for one telegram.
-use Rattle.std.specs.Prelude.{◌≡◌, refl, Bool, true, false, cond, List, ℕ, eqb, ℤ, pos, neg_ℤ}
+use Rattle.std.specs.Prelude.{None, Some, ◌≡◌, refl, Bool, true, false, cond, List, ℕ, eqb, ℤ, pos, neg_ℤ}
 use Rattle.std.proofs.Common.{arith}
 use Rattle.std.specs.Int.Signed.{lt_z}
 use Rattle.analog.proofs.CodeLaws.{code_fits}
@@ -22,16 +22,16 @@ use Rattle.settings.specs.SettingsLaws.{scaling-sound, points-ordered}
 use Rattle.reading.specs.declared.Basis.{Basis}
 use Rattle.reading.specs.Reading.{measured_at, code_at, drive_at, reading_of, curve_from, slope_at}
 
-pub accurate : {t : List ℤ} → Valid t → (b : Basis) → (reading_of t b).error ≡ Error.None → Accurate (reading_of t b).result (curve_from t b.start) (slope_at t)
+pub accurate : {t : List ℤ} → Valid t → (b : Basis) → (reading_of t b).error ≡ None → Accurate (reading_of t b).result (curve_from t b.start) (slope_at t)
 unfolding reading_of measured_at curve_from slope_at scaling_of
 accurate {t} v b e = reading-accurate (scaling_of t) (points_of t) b.start b.reported (scaling-sound v).divider (points-ordered v) e
 
 judged-within : (b : Bool) (z : ℤ) → Within Z (judged_of b z).result
 unfolding judged_of
 judged-within b z =
-    by-test b (measured (pos 0) Error.ErrorBit) _ Q (λ _. zero)
-    (λ _. by-test (lt_z (pos Z) z) (measured (pos 0) Error.AboveRange) _ Q (λ _. zero)
-    (λ h. by-test (lt_z z (neg_ℤ (pos Z))) (measured (pos 0) Error.BelowRange) (measured z Error.None) Q (λ _. zero)
+    by-test b (measured (pos 0) (Some Error.ErrorBit)) _ Q (λ _. zero)
+    (λ _. by-test (lt_z (pos Z) z) (measured (pos 0) (Some Error.AboveRange)) _ Q (λ _. zero)
+    (λ h. by-test (lt_z z (neg_ℤ (pos Z))) (measured (pos 0) (Some Error.BelowRange)) (measured z None) Q (λ _. zero)
     (λ l. within Z z (omega (arith, nlt-ex (lit Z) (var z) h, excl z)) (omega (arith, nlt-ex (var z) (neg (lit Z)) l, excl z)))))
   where
     Q : Measured → Type 0
@@ -52,9 +52,9 @@ Zeroed r error = cond (eqb error 0) r (pos 0) ≡ r
 judged-zeroed : (b : Bool) (v : ℤ) → Zeroed (judged_of b v).result (error_number (judged_of b v).error)
 unfolding judged_of
 judged-zeroed b v =
-    by-test b (measured (pos 0) Error.ErrorBit) _ Q (λ _. refl)
-    (λ _. by-test (lt_z (pos Z) v) (measured (pos 0) Error.AboveRange) _ Q (λ _. refl)
-    (λ _. by-test (lt_z v (neg_ℤ (pos Z))) (measured (pos 0) Error.BelowRange) (measured v Error.None) Q (λ _. refl) (λ _. refl)))
+    by-test b (measured (pos 0) (Some Error.ErrorBit)) _ Q (λ _. refl)
+    (λ _. by-test (lt_z (pos Z) v) (measured (pos 0) (Some Error.AboveRange)) _ Q (λ _. refl)
+    (λ _. by-test (lt_z v (neg_ℤ (pos Z))) (measured (pos 0) (Some Error.BelowRange)) (measured v None) Q (λ _. refl) (λ _. refl)))
   where
     Q : Measured → Type 0
     Q m = Zeroed m.result (error_number m.error)
@@ -67,8 +67,8 @@ judged-bit : (b : Bool) (v : ℤ) → eqb (error_number (judged_of b v).error) 3
 unfolding judged_of
 judged-bit true v = refl
 judged-bit false v =
-    by-test (lt_z (pos Z) v) (measured (pos 0) Error.AboveRange) _ Q (λ _. refl)
-    (λ _. by-test (lt_z v (neg_ℤ (pos Z))) (measured (pos 0) Error.BelowRange) (measured v Error.None) Q (λ _. refl) (λ _. refl))
+    by-test (lt_z (pos Z) v) (measured (pos 0) (Some Error.AboveRange)) _ Q (λ _. refl)
+    (λ _. by-test (lt_z v (neg_ℤ (pos Z))) (measured (pos 0) (Some Error.BelowRange)) (measured v None) Q (λ _. refl) (λ _. refl))
   where
     Q : Measured → Type 0
     Q m = eqb (error_number m.error) 3 ≡ false

@@ -34,7 +34,7 @@ pub struct Basis {
 pub struct Reading {
     // The result, 0 under an error.
     pub result: i32,
-    pub error: Error,
+    pub error: Option<Error>,
     // The analog code of the result.
     pub code: i32,
     // The drive of the code, off under an error.

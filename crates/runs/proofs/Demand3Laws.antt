@@ -1,10 +1,9 @@
 -- DEMAND 3, proved, for every table that loads and every list of events. Accuracy: the state in the end has the reading of what the book starts from under the loaded
 -- table with the book's offset, and one reading is accurate. Travel: each condition obeys its mode's law from event to event, and such a list meets the bound.
-use Rattle.std.specs.Prelude.{◌≡◌, refl, Bool, false, not, List, [], ◌∷◌, ℕ, ◌+◌, ◌*◌, ◌-◌, ◌≤◌, ◌<◌, T, ℤ, pos, length}
+use Rattle.std.specs.Prelude.{None, ◌≡◌, refl, Bool, false, not, List, [], ◌∷◌, ℕ, ◌+◌, ◌*◌, ◌-◌, ◌≤◌, ◌<◌, T, ℤ, pos, length}
 use Rattle.std.proofs.Common.{sym, ap, ◌∙◌, subst, length-set}
 use Rattle.events.specs.declared.Event.{Event}
 use Rattle.integers.specs.Fraction.{Frac, Ratio, Accurate}
-use Rattle.measurement.specs.declared.Error.TheVariants as Error
 use Rattle.measurement.specs.Curve.{steepest}
 use Rattle.parameters.specs.Slots.{offset_slot, linearization, mode, hysteresis, with_offset}
 use Rattle.parameters.proofs.StoreLaws.{alike-sym, alike-trans, offset-alike, offset-stored, stored-scaling, stored-points}
@@ -53,7 +52,7 @@ kept_run {t = t} {s = s} k (e ∷ es) = kept_run {t = t} {s = (step_of s e).stat
 
 module _ {t : List ℤ} (v : Valid t) where
   -- of a state that matches the book
-  accurate-in : {s : State} {b : Book} → Good s → Kept t s → Matches t s b → T b.seen → s.live.reading.error ≡ Error.None →
+  accurate-in : {s : State} {b : Book} → Good s → Kept t s → Matches t s b → T b.seen → s.live.reading.error ≡ None →
       Accurate s.live.reading.result (exact_at t b) (slope_at t)
   accurate-in {s} {b} g k m y e =
       rw is
@@ -77,7 +76,7 @@ module _ {t : List ℤ} (v : Valid t) where
           (m.offset ∙ sym (offset-stored b.offset v)) s.live.basis.start
 
   -- of the result last answered, with the book
-  accurately : (es : List Event) → T (book_of t es).seen → (last_answer t es).error ≡ Error.None → Accurate (last_answer t es).result (exact_at t (book_of t es)) (slope_at t)
+  accurately : (es : List Event) → T (book_of t es).seen → (last_answer t es).error ≡ None → Accurate (last_answer t es).result (exact_at t (book_of t es)) (slope_at t)
   unfolding answer_of
   accurately es =
       let o = last-own (unasked (fresh_of t)) es (answer-own (fresh_of t) no_note no_halves) in

@@ -1,10 +1,9 @@
 -- The state of a panel, its fresh state, its parts set anew, and the result worked out. Paper 01, "Events and inputs", "a fresh state"; paper 02, K6, the record.
 -- The table in force stands in the state: a reset stores its offset, a teach a preselection. The live values stand beside it. Assumes nothing.
-use Rattle.std.specs.Prelude.{true, false, Option, List, [], ◌∷◌, ℕ, ℤ, pos}
+use Rattle.std.specs.Prelude.{true, false, Option, List, [], ◌∷◌, ℕ, ℤ, pos, None}
 use Rattle.analog.specs.declared.Drive.TheVariants.{Off}
 use Rattle.driverecord.specs.declared.DriveRecord.{DriveRecord}
 use Rattle.driverecord.specs.DriveRecord.{fresh_record, updated_of}
-use Rattle.measurement.specs.declared.Error.TheVariants as Error
 use Rattle.reading.specs.declared.Basis.{Basis}
 use Rattle.reading.specs.declared.Halves.{Halves}
 use Rattle.reading.specs.declared.Reading.{Reading}
@@ -19,7 +18,7 @@ use Rattle.state.specs.Extremes.{no_extremes, error_in, widened_of}
 
 -- result 0, no error, drive off
 abbrev pub no_reading : Reading
-no_reading = record { result = pos 0; error = Error.None; code = pos 0; drive = Off }
+no_reading = record { result = pos 0; error = None; code = pos 0; drive = Off }
 
 -- levels low, no telegram, result and shown 0, no least or greatest, conditions off; K6, present zero, lowest and highest empty
 abbrev pub fresh_live : Live

@@ -93,7 +93,7 @@ pub fn fresh(table: [i32; 104]) -> State
             },
             reading: Reading {
                 result: 0,
-                error: measurement::Error::None,
+                error: None,
                 code: 0,
                 drive: analog::Drive::Off,
             },
@@ -140,20 +140,14 @@ pub fn note_number(note: Option<Refusal>) -> u8
 fn lower(a: i32, b: i32) -> i32
     ensures { result ≡ cond (lt_z a b) a b }
 {
-    if a < b {
-        return a;
-    }
-    b
+    b.min(a)
 }
 
 // The higher of two results.
 fn higher(a: i32, b: i32) -> i32
     ensures { result ≡ cond (lt_z b a) a b }
 {
-    if b < a {
-        return a;
-    }
-    b
+    a.max(b)
 }
 
 // Least and greatest with one more reading.

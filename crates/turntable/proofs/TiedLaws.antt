@@ -1,6 +1,6 @@
 -- Two states of a turntable's panel that tell the same: tables that differ in the offset alone, and there by a multiple of R; a count that is the other's position
 -- modulo R. Their distances are equal, so their readings and marks are, and what follows from them. For the theorem on the rule before K4. Assumes nothing.
-use Rattle.std.specs.Prelude.{Option, ◌≡◌, Bool, true, false, List, ℕ, ◌<◌, T, ℤ, pos, length}
+use Rattle.std.specs.Prelude.{Option, ◌≡◌, Bool, true, false, List, ℕ, ◌<◌, T, ℤ, pos, length, Some}
 use Rattle.std.proofs.Math.Path.{refl, sym}
 use Rattle.std.proofs.Common.{ap, ◌∙◌, arith, ne_eqb}
 use Rattle.inputs.specs.Freeze.{frozen}
@@ -76,7 +76,7 @@ pub record Bases (R : ℕ) (b o : Basis) : Type 0 where
   pub start : b.reported ≡ false → pos b.start ≡ floor_mod (pos o.start) (pos R)
 
 -- under error 3 nothing of the basis matters
-faulty-measured : (t : List ℤ) (b : Basis) → b.reported ≡ true → measured_at t b ≡ measured (pos 0) Error.ErrorBit
+faulty-measured : (t : List ℤ) (b : Basis) → b.reported ≡ true → measured_at t b ≡ measured (pos 0) (Some Error.ErrorBit)
 unfolding measured_at measured_of judged_of
 faulty-measured t b e = rw e
 
