@@ -180,6 +180,7 @@ pub fn gathered(t: &[i32; 104]) -> Settings
 }
 
 // The action of a number; what is no action does nothing.
+// Kept: `From<u32>` is no plainer, since a number that is no action has one here too, which only a name and its comment tell.
 fn action_of(n: u32) -> Action
     ensures { result ≡ action_of n }
 {
@@ -196,7 +197,8 @@ fn action_of(n: u32) -> Action
     }
 }
 
-// The config of a number.
+// The config of a number; what is none stands for the last.
+// Kept: as at `action_of`.
 fn config_of(n: u32) -> Config
     ensures { result ≡ config_of n }
 {
@@ -229,5 +231,5 @@ pub fn freezes_at(t: &[i32; 104], i: usize) -> bool
     requires { i < 3 }
     ensures { result ≡ is_freeze (input_at t.now i).action }
 {
-    natural(t, slots::ACTION + slots::INPUT_STRIDE * i) == 2
+    matches!(action_at(t, i), Action::Freeze)
 }
