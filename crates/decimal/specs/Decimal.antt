@@ -1,7 +1,8 @@
 -- The text of a whole number: for every z of at most 18 digits, what is written for z is read as z, and nothing else is read as z.
 -- A text is a minus sign for a number below 0 and then its digits, the most significant first, with no zero in front; 0 is the digit 0.
 -- From "panelrun and its log": the numbers of the printed lines.
-use Rattle.std.specs.Prelude.{ℕ, zero, suc, ◌+◌, ◌-◌, ◌*◌, ◌/◌, ◌%◌, ◌^◌, Bool, true, false, cond, ◌&&◌, List, [], ◌∷◌, ◌++◌, ltb, leb, eqb, ℤ, pos, negsuc, neg_ℤ, nat_abs, Option, Some, None}
+use Rattle.std.specs.Cmp.Lexicographic.{pointwise}
+use Rattle.std.specs.Prelude.{nat_eq, ℕ, zero, suc, ◌+◌, ◌-◌, ◌*◌, ◌/◌, ◌%◌, ◌^◌, Bool, true, false, cond, ◌&&◌, List, [], ◌∷◌, ◌++◌, ltb, leb, eqb, ℤ, pos, negsuc, neg_ℤ, nat_abs, Option, Some, None}
 
 -- the most digits that a number has here
 abbrev pub most_digits : ℕ
@@ -45,10 +46,7 @@ number_in (b ∷ s) = cond (eqb b minus) (neg_ℤ (pos (value_from 0 s))) (pos (
 
 -- whether two texts are the same
 unfoldable pub same_text : List ℕ → List ℕ → Bool
-same_text [] [] = true
-same_text [] (b ∷ t) = false
-same_text (a ∷ s) [] = false
-same_text (a ∷ s) (b ∷ t) = eqb a b && same_text s t
+same_text s t = pointwise nat_eq s t
 
 -- what a text is read as: a number of at most 18 digits where it is that number's text, else none, for it is malformed
 unfoldable pub parsed_of : List ℕ → Option ℤ

@@ -1,5 +1,6 @@
 -- WHAT IS WRITTEN IN HEX IS READ: a number as k digits, and bytes as two digits each. Upper and lower case are read alike.
-use Rattle.std.specs.Prelude.{◌≡◌, refl, Bool, true, false, cond, List, [], ◌∷◌, ◌++◌, ℕ, zero, suc, ◌+◌, ◌*◌, ◌/◌, ◌%◌, ◌^◌, ◌<◌, ltb, leb, length}
+use Rattle.std.specs.Prelude.{◌≡◌, refl, Bool, true, false, cond, List, [], ◌∷◌, ◌++◌, ℕ, zero, suc, ◌+◌, ◌*◌, ◌/◌, ◌%◌, ◌^◌, ◌<◌, ltb, leb, length, Option, Some, None}
+use Rattle.std.specs.Option.{is_some, unwrap_or}
 use Rattle.std.proofs.Common.{sym, ap, ◌∙◌, append-nil, arith, div-add-mod', mod-lt, pow-suc, length-append, ltb-true, ltb-false, lt-ltb, leb-true}
 use Rattle.decimal.specs.DigitLaws.{both_true}
 use Rattle.text.specs.Marks.{space}
@@ -16,24 +17,24 @@ letter-plain d = by (ltb d 10)
     by true = omega arith
     by false = omega arith
 
-letter-back : (d : ℕ) → d < 16 → hex_digit (hex_letter d) ≡ d
+letter-back : (d : ℕ) → d < 16 → hex_digit (hex_letter d) ≡ Some d
 unfolding hex_letter
 letter-back d h = by (ltb d 10) refl
   where
-    by : (t : Bool) → ltb d 10 ≡ t → hex_digit (cond t (48 + d) (55 + d)) ≡ d
-    by true e = let l = ltb-true d 10 e in digit-number (48 + d) (omega arith) (omega arith) ∙ omega arith
-    by false e = let l = ltb-false d 10 e in digit-upper (55 + d) (omega arith) (omega arith) ∙ omega arith
+    by : (t : Bool) → ltb d 10 ≡ t → hex_digit (cond t (48 + d) (55 + d)) ≡ Some d
+    by true e = let l = ltb-true d 10 e in digit-number (48 + d) (omega arith) (omega arith) ∙ ap {A = ℕ} {B = Option ℕ} Some (omega arith)
+    by false e = let l = ltb-false d 10 e in digit-upper (55 + d) (omega arith) (omega arith) ∙ ap {A = ℕ} {B = Option ℕ} Some (omega arith)
 
-hex-more : (v : ℕ) (s : List ℕ) (b : ℕ) → hex_from v (s ++ (b ∷ [])) ≡ hex_from v s * 16 + hex_digit b
+hex-more : (v : ℕ) (s : List ℕ) (b : ℕ) → hex_from v (s ++ (b ∷ [])) ≡ hex_from v s * 16 + unwrap_or (hex_digit b) 0
 unfolding hex_from
 hex-more v [] b = refl
-hex-more v (a ∷ s) b = hex-more (v * 16 + hex_digit a) s b
+hex-more v (a ∷ s) b = hex-more (v * 16 + unwrap_or (hex_digit a) 0) s b
 
-all_more : (s : List ℕ) (b : ℕ) → all_hex s ≡ true → hex_digit b < 16 → all_hex (s ++ (b ∷ [])) ≡ true
+all_more : (s : List ℕ) (b : ℕ) → all_hex s ≡ true → is_some (hex_digit b) ≡ true → all_hex (s ++ (b ∷ [])) ≡ true
 unfolding all_hex
-all_more [] b e h = rw (lt-ltb (hex_digit b) 16 h)
+all_more [] b e h = rw h
 all_more (a ∷ s) b e h =
-    let q = both_true (ltb (hex_digit a) 16) (all_hex s) e in
+    let q = both_true (is_some (hex_digit a)) (all_hex s) e in
     rw (q.0, all_more s b q.1 h)
 
 plain_more : (s : List ℕ) (b : ℕ) → all_plain s ≡ true → space < b → all_plain (s ++ (b ∷ [])) ≡ true
@@ -54,7 +55,7 @@ hexin-length (suc k) n = rw (length-append, hexin-length k (n / 16)) (omega arit
 hexin-all : (k n : ℕ) → all_hex (hex_in k n) ≡ true
 unfolding hex_in all_hex
 hexin-all zero n = refl
-hexin-all (suc k) n = all_more (hex_in k (n / 16)) (hex_letter (n % 16)) (hexin-all k (n / 16)) (rw (letter-back (n % 16) (rest_below n)) (rest_below n))
+hexin-all (suc k) n = all_more (hex_in k (n / 16)) (hex_letter (n % 16)) (hexin-all k (n / 16)) (rw (letter-back (n % 16) (rest_below n)))
 
 hexin-plain : (k n : ℕ) → all_plain (hex_in k n) ≡ true
 unfolding hex_in all_plain
@@ -94,7 +95,7 @@ pair-back b h = rw (letter-back (b / 16) (high-below b h), letter-back (b % 16) 
 
 pub pair-hex : (b : ℕ) → b < 256 → is_hex 2 2 (hex_pair b) ≡ true
 unfolding is_hex all_hex
-pair-hex b h = rw (letter-back (b / 16) (high-below b h), letter-back (b % 16) (rest_below b), lt-ltb (b / 16) 16 (high-below b h), lt-ltb (b % 16) 16 (rest_below b))
+pair-hex b h = rw (letter-back (b / 16) (high-below b h), letter-back (b % 16) (rest_below b))
 
 -- as many words as bytes, and all of them plain
 pub pairs-count : (l : List ℕ) → length (pair_words l) ≡ length l
@@ -128,7 +129,7 @@ lowered-digit b = by (between 65 70 b) refl
 pub lowered-alike : (v : ℕ) (s : List ℕ) → hex_from v (lowered_all s) ≡ hex_from v s
 unfolding hex_from lowered_all
 lowered-alike v [] = refl
-lowered-alike v (b ∷ s) = ap (λ (d : ℕ). hex_from (v * 16 + d) (lowered_all s)) (lowered-digit b) ∙ lowered-alike (v * 16 + hex_digit b) s
+lowered-alike v (b ∷ s) = ap (λ (d : Option ℕ). hex_from (v * 16 + unwrap_or d 0) (lowered_all s)) (lowered-digit b) ∙ lowered-alike (v * 16 + unwrap_or (hex_digit b) 0) s
 
 lowered-length : (s : List ℕ) → length (lowered_all s) ≡ length s
 unfolding lowered_all

@@ -1,5 +1,6 @@
 -- Laws of hex digits: how large the number of some digits is, digits of either case, and what is written is read.
-use Rattle.std.specs.Prelude.{◌≡◌, refl, Bool, true, false, cond, ◌&&◌, List, [], ◌∷◌, ◌++◌, ℕ, suc, ◌+◌, ◌-◌, ◌*◌, ◌^◌, ◌≤◌, ◌<◌, leb, ltb, length, get_or, take, drop}
+use Rattle.std.specs.Prelude.{◌≡◌, refl, Bool, true, false, cond, ◌&&◌, List, [], ◌∷◌, ◌++◌, ℕ, suc, ◌+◌, ◌-◌, ◌*◌, ◌^◌, ◌≤◌, ◌<◌, leb, ltb, length, get_or, take, drop, Option, Some, None}
+use Rattle.std.specs.Option.{is_some, unwrap_or}
 use Rattle.std.proofs.Common.{ap, arith, mul_assoc, mul-le-mul_right, lt_of_lt_of_le, add-one, take-suc, leb-true, ltb-true, le-leb}
 use Rattle.std.proofs.Math.Nat.{pow-succ', pow-le-pow_right}
 use Rattle.std.proofs.lemmas.Bool.{lt-leb}
@@ -8,77 +9,77 @@ use Rattle.text.specs.Marks.{space}
 use Rattle.text.specs.Hex.{between, hex_digit, all_hex, is_hex, hex_from, hex_of, hex_pair, spaced_pairs, hex_text}
 
 -- ---- a digit by the range of its byte
-pub digit_low : (b : ℕ) → b < 48 → hex_digit b ≡ 16
+pub digit_low : (b : ℕ) → b < 48 → hex_digit b ≡ None
 unfolding hex_digit
 digit_low b h = rw (lt-leb 48 b h, lt-leb 65 b (omega arith), lt-leb 97 b (omega arith))
 
-pub digit-number : (b : ℕ) → 48 ≤ b → b ≤ 57 → hex_digit b ≡ b - 48
+pub digit-number : (b : ℕ) → 48 ≤ b → b ≤ 57 → hex_digit b ≡ Some (b - 48)
 unfolding hex_digit
 digit-number b h i = rw (le-leb 48 b h, le-leb b 57 i)
 
-pub digit-between : (b : ℕ) → 57 < b → b < 65 → hex_digit b ≡ 16
+pub digit-between : (b : ℕ) → 57 < b → b < 65 → hex_digit b ≡ None
 unfolding hex_digit
 digit-between b h i = rw (le-leb 48 b (omega arith), lt-leb b 57 h, lt-leb 65 b i, lt-leb 97 b (omega arith))
 
-pub digit-upper : (b : ℕ) → 65 ≤ b → b ≤ 70 → hex_digit b ≡ b - 55
+pub digit-upper : (b : ℕ) → 65 ≤ b → b ≤ 70 → hex_digit b ≡ Some (b - 55)
 unfolding hex_digit
 digit-upper b h i = rw (le-leb 48 b (omega arith), lt-leb b 57 (omega arith), le-leb 65 b h, le-leb b 70 i)
 
-pub digit-middle : (b : ℕ) → 70 < b → b < 97 → hex_digit b ≡ 16
+pub digit-middle : (b : ℕ) → 70 < b → b < 97 → hex_digit b ≡ None
 unfolding hex_digit
 digit-middle b h i = rw (le-leb 48 b (omega arith), lt-leb b 57 (omega arith), le-leb 65 b (omega arith), lt-leb b 70 h, lt-leb 97 b i)
 
-pub digit-lower : (b : ℕ) → 97 ≤ b → b ≤ 102 → hex_digit b ≡ b - 87
+pub digit-lower : (b : ℕ) → 97 ≤ b → b ≤ 102 → hex_digit b ≡ Some (b - 87)
 unfolding hex_digit
 digit-lower b h i = rw (le-leb 48 b (omega arith), lt-leb b 57 (omega arith), le-leb 65 b (omega arith), lt-leb b 70 (omega arith), le-leb 97 b h, le-leb b 102 i)
 
-pub digit-high : (b : ℕ) → 102 < b → hex_digit b ≡ 16
+pub digit-high : (b : ℕ) → 102 < b → hex_digit b ≡ None
 unfolding hex_digit
 digit-high b h = rw (le-leb 48 b (omega arith), lt-leb b 57 (omega arith), le-leb 65 b (omega arith), lt-leb b 70 (omega arith), le-leb 97 b (omega arith), lt-leb b 102 h)
 
 -- UPPER AND LOWER CASE ARE READ ALIKE: `A` to `F` are 65 to 70, `a` to `f` are 97 to 102
 pub cases_alike : (b : ℕ) → 65 ≤ b → b ≤ 70 → hex_digit (b + 32) ≡ hex_digit b
-cases_alike b h i = rw (digit-upper b h i, digit-lower (b + 32) (omega arith) (omega arith)) (omega arith)
+cases_alike b h i = rw (digit-upper b h i, digit-lower (b + 32) (omega arith) (omega arith)) (ap {A = ℕ} {B = Option ℕ} Some (omega arith))
 
--- every digit is at most 16, which is none
-pub digit-most : (b : ℕ) → hex_digit b ≤ 16
+-- every digit is below 16
+pub digit-most : (b : ℕ) → unwrap_or (hex_digit b) 0 < 16
 unfolding hex_digit
-digit-most b = first (leb 48 b && leb b 57) refl
+digit-most b = first (between 48 57 b) refl
   where
-    third : (t : Bool) → between 97 102 b ≡ t → cond t (b - 87) 16 ≤ 16
+    third : (t : Bool) → between 97 102 b ≡ t → unwrap_or (cond t (Some (b - 87)) None) 0 < 16
     third true e = omega (arith, leb-true b 102 (both_true (leb 97 b) (leb b 102) e).1)
     third false e = omega arith
 
-    second : (t : Bool) → between 65 70 b ≡ t → cond t (b - 55) (cond (between 97 102 b) (b - 87) 16) ≤ 16
+    second : (t : Bool) → between 65 70 b ≡ t → unwrap_or (cond t (Some (b - 55)) (cond (between 97 102 b) (Some (b - 87)) None)) 0 < 16
     second true e = omega (arith, leb-true b 70 (both_true (leb 65 b) (leb b 70) e).1)
     second false e = third (between 97 102 b) refl
 
-    first : (t : Bool) → between 48 57 b ≡ t → cond t (b - 48) (cond (between 65 70 b) (b - 55) (cond (between 97 102 b) (b - 87) 16)) ≤ 16
+    first : (t : Bool) → between 48 57 b ≡ t → unwrap_or (cond t (Some (b - 48)) (cond (between 65 70 b) (Some (b - 55)) (cond (between 97 102 b) (Some (b - 87)) None))) 0 < 16
     first true e = omega (arith, leb-true b 57 (both_true (leb 48 b) (leb b 57) e).1)
     first false e = second (between 65 70 b) refl
 
 -- ---- the number of some digits
-pub all_head : (b : ℕ) (s : List ℕ) → all_hex (b ∷ s) ≡ true → hex_digit b < 16
+pub all_head : (b : ℕ) (s : List ℕ) → all_hex (b ∷ s) ≡ true → is_some (hex_digit b) ≡ true
 unfolding all_hex
-all_head b s e = ltb-true (hex_digit b) 16 (both_true (ltb (hex_digit b) 16) (all_hex s) e).0
+all_head b s e = (both_true (is_some (hex_digit b)) (all_hex s) e).0
 
 pub all_tail : (b : ℕ) (s : List ℕ) → all_hex (b ∷ s) ≡ true → all_hex s ≡ true
 unfolding all_hex
-all_tail b s e = (both_true (ltb (hex_digit b) 16) (all_hex s) e).1
+all_tail b s e = (both_true (is_some (hex_digit b)) (all_hex s) e).1
 
 pub hex-grows : (v : ℕ) (s : List ℕ) → v ≤ hex_from v s
 unfolding hex_from
 hex-grows v [] = omega arith
-hex-grows v (b ∷ s) = omega (arith, hex-grows (v * 16 + hex_digit b) s)
+hex-grows v (b ∷ s) = omega (arith, hex-grows (v * 16 + unwrap_or (hex_digit b) 0) s)
 
 -- k digits stand for a number below 16 ^ k
 pub hex-below : (v : ℕ) (s : List ℕ) → all_hex s ≡ true → hex_from v s < suc v * 16 ^ length s
 unfolding hex_from
 hex-below v [] e = omega arith
 hex-below v (b ∷ s) e =
-    let l = all_head b s e in
-    let m : suc (v * 16 + hex_digit b) ≤ suc v * 16 = omega arith in
-    let r = hex-below (v * 16 + hex_digit b) s (all_tail b s e) in
+    let l = digit-most b in
+    let m : suc (v * 16 + unwrap_or (hex_digit b) 0) ≤ suc v * 16 = omega arith in
+    let r = hex-below (v * 16 + unwrap_or (hex_digit b) 0) s (all_tail b s e) in
     lt_of_lt_of_le r (rw (pow-succ' 16 (length s), ← mul_assoc (suc v) 16 (16 ^ length s)) (mul-le-mul_right (16 ^ length s) m))
 
 -- what a word of hex digits is

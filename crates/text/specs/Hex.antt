@@ -1,23 +1,24 @@
 -- Hex digits: `0` to `9`, `A` to `F` and `a` to `f`, read in either case and written in upper case. Request K2, "console".
 -- Main property: what is written is read (HexBackLaws), and upper and lower case are read alike.
-use Rattle.std.specs.Prelude.{Bool, true, cond, ◌&&◌, List, [], ◌∷◌, ◌++◌, ℕ, zero, suc, ◌+◌, ◌-◌, ◌*◌, ◌/◌, ◌%◌, ltb, leb, length}
+use Rattle.std.specs.Prelude.{Bool, true, cond, ◌&&◌, List, [], ◌∷◌, ◌++◌, ℕ, zero, suc, ◌+◌, ◌-◌, ◌*◌, ◌/◌, ◌%◌, ltb, leb, length, Option, Some, None}
+use Rattle.std.specs.List.{list_all}
+use Rattle.std.specs.Option.{is_some, unwrap_or}
 use Rattle.text.specs.Marks.{space}
 
 -- a byte from a to b
 abbrev pub between : ℕ → ℕ → ℕ → Bool
 between a b x = leb a x && leb x b
 
--- what a byte stands for as a hex digit; 16 for a byte that is none
-unfoldable pub hex_digit : ℕ → ℕ
+-- what a byte stands for as a hex digit; none for a byte that is none
+unfoldable pub hex_digit : ℕ → Option ℕ
 hex_digit b =
-    cond (between 48 57 b) (b - 48)
-    (cond (between 65 70 b) (b - 55)
-    (cond (between 97 102 b) (b - 87) 16))
+    cond (between 48 57 b) (Some (b - 48))
+    (cond (between 65 70 b) (Some (b - 55))
+    (cond (between 97 102 b) (Some (b - 87)) None))
 
 -- every byte is a hex digit
 unfoldable pub all_hex : List ℕ → Bool
-all_hex [] = true
-all_hex (b ∷ s) = ltb (hex_digit b) 16 && all_hex s
+all_hex s = list_all (λ b. is_some (hex_digit b)) s
 
 -- from `least` to `most` hex digits
 unfoldable pub is_hex : ℕ → ℕ → List ℕ → Bool
@@ -26,7 +27,7 @@ is_hex least most s = leb least (length s) && (leb (length s) most && all_hex s)
 -- the number that hex digits stand for, behind digits that stand for v
 unfoldable pub hex_from : ℕ → List ℕ → ℕ
 hex_from v [] = v
-hex_from v (b ∷ s) = hex_from (v * 16 + hex_digit b) s
+hex_from v (b ∷ s) = hex_from (v * 16 + unwrap_or (hex_digit b) 0) s
 
 abbrev pub hex_of : List ℕ → ℕ
 hex_of s = hex_from 0 s

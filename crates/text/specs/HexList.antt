@@ -1,11 +1,11 @@
 -- Words that are hex numbers: at most so many, each of so many digits; and what they stand for. Assumes nothing.
-use Rattle.std.specs.Prelude.{Bool, true, ◌&&◌, List, [], ◌∷◌, ℕ, leb, length}
+use Rattle.std.specs.List.{list_all}
+use Rattle.std.specs.Prelude.{Bool, ◌&&◌, List, [], ◌∷◌, ℕ, leb, length}
 use Rattle.text.specs.Hex.{is_hex, hex_of}
 
 -- each word has from `least` to `most` hex digits
 unfoldable pub all_hex_words : ℕ → ℕ → List (List ℕ) → Bool
-all_hex_words least most [] = true
-all_hex_words least most (w ∷ ws) = is_hex least most w && all_hex_words least most ws
+all_hex_words least most ws = list_all (is_hex least most) ws
 
 unfoldable pub are_hex : ℕ → ℕ → ℕ → List (List ℕ) → Bool
 are_hex count least most ws = leb (length ws) count && all_hex_words least most ws

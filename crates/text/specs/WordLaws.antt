@@ -175,6 +175,21 @@ rest-shorter s h =
     let t = length-take-le (word_length u) u (word-within u) in
     rw length-drop (omega (arith, unspaced-within s, word-within u))
 
+-- no more words than bytes
+pub words-few : (s : List ℕ) → length (words_of s) ≤ length s
+unfolding words_of parts_of
+words-few [] = omega arith
+words-few (b ∷ s) = by (eqb b space) (parts_of s) (words-few s)
+  where
+    fewer : (p : List ℕ) (ps : List (List ℕ)) → length (filled ps) ≤ length (filled (p ∷ ps))
+    fewer [] ps = omega arith
+    fewer (c ∷ p) ps = omega arith
+
+    by : (t : Bool) (ps : List (List ℕ)) → length (filled ps) ≤ length s → length (filled (cond t ([] ∷ ps) (onto b ps))) ≤ suc (length s)
+    by true ps h = omega arith
+    by false [] h = omega arith
+    by false (p ∷ ps) h = omega (arith, fewer p ps)
+
 -- ---- the part of a text from a place on
 pub part-all : (s : List ℕ) (n : ℕ) → take (length s - n) (drop n s) ≡ drop n s
 part-all s n = take_all (length s - n) (drop n s) (omega (arith, length-drop n s))

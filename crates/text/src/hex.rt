@@ -6,45 +6,26 @@ ghost use Rattle.text.specs.HexList.{are_hex};
 ghost use Rattle.text.specs.Words.{words_of};
 ghost use Rattle.text.specs.Put.{Put};
 
-use crate::words;
+use crate::words::Words;
 
-// What a byte stands for as a hex digit; 16 for a byte that is none.
-fn digit(b: u8) -> u8
+// What a byte stands for as a hex digit; none for a byte that is none.
+#[tactic(auto, unfolding(crate::specs::Hex::hex_digit))]
+fn digit(b: u8) -> Option<u8>
     ensures { result ≡ hex_digit b }
 {
-    if b < b'0' {
-        return 16;
+    match b {
+        b'0'..=b'9' => Some(b - b'0'),
+        b'A'..=b'F' => Some(b - 55),
+        b'a'..=b'f' => Some(b - 87),
+        _ => None,
     }
-    if b <= b'9' {
-        return b - b'0';
-    }
-    if b < b'A' {
-        return 16;
-    }
-    if b <= b'F' {
-        return b - 55;
-    }
-    if b < b'a' {
-        return 16;
-    }
-    if b <= b'f' {
-        return b - 87;
-    }
-    16
 }
 
 // Whether every byte is a hex digit.
 fn all_hex(s: &[u8]) -> bool
     ensures { result ≡ all_hex s.now }
 {
-    let mut t = s;
-    while t.len() > 0 {
-        if digit(t[0]) == 16 {
-            return false;
-        }
-        t = &t[1..];
-    }
-    true
+    s.iter().all(|b| digit(*b).is_some())
 }
 
 // Whether a word is from `least` to `most` hex digits.
@@ -58,32 +39,8 @@ pub fn is_hex(s: &[u8], least: usize, most: usize) -> bool
 pub fn are_hex(s: &[u8], count: usize, least: usize, most: usize) -> bool
     ensures { result ≡ are_hex count least most (words_of s.now) }
 {
-    let mut t = s;
-    let mut n: usize = 0;
-    loop {
-        let w = words::word(t);
-        if w.len() == 0 {
-            return true;
-        }
-        if n == count {
-            return false;
-        }
-        if is_hex(w, least, most) {
-            let r = words::rest(t);
-            let k = t.len() - r.len();
-            t = &t[k..];
-            n += 1;
-        } else {
-            return false;
-        }
-    }
-}
-
-// A byte as a number of 32 bits.
-fn wide(b: u8) -> u32
-    ensures { result ≡ b }
-{
-    b as u32
+    let words = Words { text: s };
+    words.count() <= count && Words { text: s }.all(|w| is_hex(w, least, most))
 }
 
 // The number that hex digits stand for.
@@ -92,10 +49,8 @@ pub fn value(s: &[u8]) -> u32
     ensures { result ≡ hex_of s.now }
 {
     let mut v: u32 = 0;
-    let mut i: usize = 0;
-    while i < s.len() {
-        v = v * 16 + wide(digit(s[i]));
-        i += 1;
+    for b in s {
+        v = v * 16 + u32::from(digit(*b).unwrap_or(0));
     }
     v
 }
@@ -135,10 +90,8 @@ fn put_rest(out: &mut [u8], at: usize, bytes: &[u8]) -> usize
     ensures { Put out.old at (spaced_pairs bytes.now) result out.new }
 {
     let mut p = at;
-    let mut i: usize = 0;
-    while i < bytes.len() {
-        p = put_spaced(out, p, bytes[i]);
-        i += 1;
+    for b in bytes {
+        p = put_spaced(out, p, *b);
     }
     p
 }
@@ -148,11 +101,11 @@ pub fn put(out: &mut [u8], at: usize, bytes: &[u8]) -> usize
     requires { at + 3 * length bytes.now ≤ length out.old }
     ensures { Put out.old at (hex_text bytes.now) result out.new }
 {
-    if bytes.len() == 0 {
+    let Some((first, rest)) = bytes.split_first() else {
         return at;
-    }
-    let p = put_pair(out, at, bytes[0]);
-    put_rest(out, p, &bytes[1..])
+    };
+    let p = put_pair(out, at, *first);
+    put_rest(out, p, rest)
 }
 
 // The last digit of a number.

@@ -1,35 +1,46 @@
 // The words of a text, as parts of it.
 ghost use Rattle.std.specs.Prelude.{◌≡◌};
-ghost use Rattle.decimal.specs.Decimal.{same_text};
+ghost use Rattle.std.specs.Iterator.{YieldsFirstRef, item_count};
 ghost use Rattle.text.specs.Words.{words_of, trimmed_of, only_of};
 ghost use Rattle.text.specs.WordSteps.{unspaced_of, word_length, word_of, rest_of};
+
+// The words of a text, one after the other.
+#[derive(Drop)]
+pub struct Words<'a> {
+    // What is left of the text.
+    pub text: &'a [u8],
+}
+
+impl<'a> Iterator for Words<'a> {
+    type Item = &'a [u8];
+
+    ghost next_gives = { YieldsFirstRef (λ s. words_of s.text.now) };
+
+    ghost remaining = { item_count (λ s. words_of s.text.now) };
+
+    fn next(&mut self) -> Option<&'a [u8]> {
+        let w = word(self.text);
+        if w.is_empty() {
+            return None;
+        }
+        self.text = rest(self.text);
+        Some(w)
+    }
+}
 
 // The text from its first byte on that is no space.
 fn unspaced(s: &[u8]) -> &[u8]
     ensures { result.now ≡ unspaced_of s.now }
 {
-    let mut t = s;
-    while t.len() > 0 {
-        if t[0] != b' ' {
-            return t;
-        }
-        t = &t[1..];
-    }
-    t
+    let n = s.iter().position(|b| *b != b' ').unwrap_or(s.len());
+    &s[n..]
 }
 
 // How many bytes stand before the first space.
 fn word_length(s: &[u8]) -> usize
     ensures { result ≡ word_length s.now }
 {
-    let mut i: usize = 0;
-    while i < s.len() {
-        if s[i] == b' ' {
-            return i;
-        }
-        i += 1;
-    }
-    i
+    s.iter().position(|b| *b == b' ').unwrap_or(s.len())
 }
 
 // The first word, empty where there is none.
@@ -56,41 +67,15 @@ pub fn only(s: &[u8]) -> &[u8]
 {
     let t = rest(s);
     let extra = word(t);
-    if extra.len() == 0 {
+    if extra.is_empty() {
         return word(s);
     }
     &s[..0]
-}
-
-// Whether two texts are the same.
-pub fn same(a: &[u8], b: &[u8]) -> bool
-    ensures { result ≡ same_text a.now b.now }
-{
-    let mut x = a;
-    let mut y = b;
-    while x.len() > 0 {
-        if y.len() == 0 {
-            return false;
-        }
-        if x[0] != y[0] {
-            return false;
-        }
-        x = &x[1..];
-        y = &y[1..];
-    }
-    y.len() == 0
 }
 
 // A line without a carriage return at its end.
 pub fn trimmed(s: &[u8]) -> &[u8]
     ensures { result.now ≡ trimmed_of s.now }
 {
-    let n = s.len();
-    if n == 0 {
-        return s;
-    }
-    if s[n - 1] == b'\r' {
-        return &s[..n - 1];
-    }
-    s
+    s.strip_suffix(b"\r").unwrap_or(s)
 }

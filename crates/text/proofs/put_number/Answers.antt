@@ -8,7 +8,6 @@ use mir.Facts.{to_z-of_z}
 use Rattle.decimal.specs.Decimal.{text_of}
 use Rattle.decimal.specs.DecimalLaws.{text-at-most-19}
 use Rattle.text.proofs.Parts.{number_put}
-use borrow.Author.Rules.{rules}
 use Rattle.text.proofs.put_number.Goals as goal
 
 pub overflow_add-end : goal.overflow_add-end

@@ -5,7 +5,6 @@ use mir.Syntax.{w32, w64}
 use mir.Val.{SFits}
 use mir.Facts.{to_z-of_z}
 use Rattle.integers.specs.IntLaws.{size, wider, fits-within}
-use borrow.Author.Rules.{rules}
 use Rattle.text.proofs.put_word.Goals as goal
 
 pub as_wide : {z : ℤ} → SFits w32 z → SFits w64 z

@@ -1,57 +1,32 @@
--- `text::hex::are_hex` meets its contract. The invariant: what is left decides, behind n numbers. The measure is its length.
-use Prim.Native.Nat.{◌≤◌}
-use mathlib.Core.Path.{◌≡◌, sym, ap, ◌∙◌}
+-- `text::hex::are_hex` meets its contract: the words are counted, and the chain's test is the definition's.
+use mathlib.Core.Path.{◌≡◌, refl}
 use native.Mathlib.Omega.{arith}
 use lib.ListN.{length}
-use Rattle.text.specs.Words.{words_of}
-use Rattle.text.specs.HexList.{are_hex}
-use Rattle.text.proofs.HexListLaws.{hex_from, hex-start, hex-end, hex-over, hex-other, hex-next}
-use Rattle.text.specs.WordLaws.{rest-within, rest-shorter}
-use Rattle.text.specs.WordLaws.{go_on}
 use borrow.Author.Rules.{rules}
+use borrow.Author.Tests.{tests, le-leb, lt-leb}
+use Rattle.std.proofs.Common.{inl}
+use Rattle.std.proofs.lemmas.Iterator.Consumers.{YieldsList-from_first, count_from_yields_List}
+use Rattle.std.proofs.lemmas.Iterator.Search.{all_from_yields_List}
+use Rattle.text.specs.Words.{words_of}
+use Rattle.text.specs.WordLaws.{words-few}
+use Rattle.text.specs.Hex.{is_hex}
+use Rattle.text.specs.HexList.{all_hex_words, are_hex}
 use Rattle.text.proofs.hex.are_hex.Goals as goal
 
-pub loop-t-init : goal.loop-t-init
-loop-t-init c = (omega arith, hex-start _ _ _ _)
+pub count-requires-clause-fits : goal.count-requires-clause-fits
+count-requires-clause-fits c = inl (omega (arith, words-few c.args.s.now))
 
-pub returns-then-w-eq0 : goal.returns-then-w-eq0
-returns-then-w-eq0 c = let l = c.loop-t in
-    sym (hex-end _ _ _ l.n l.t.now l.invariant.0 (sym (ap length c.word-w.ensures) ∙ c.if-w-eq0.true)) ∙ l.invariant.1
+pub returns-then-count : goal.returns-then-count
+unfolding are_hex all_hex_words
+returns-then-count c =
+    let ws = words_of c.args.s.now in
+    let n : c.count.result ≡ length ws = count_from_yields_List _ _ c.count.ensures.ran (YieldsList-from_first (λ x. x.now) (λ s. words_of s.text.now) {s = record { text = c.args.s }} ws refl) in
+    rw (le-leb (length ws) c.args.count (omega (arith, n)))
+    (all_from_yields_List (is_hex c.args.least c.args.most) c.all.new.self _ _ c.all.ensures.ran (YieldsList-from_first (λ x. x.now) (λ s. words_of s.text.now) {s = record { text = c.args.s }} ws refl) (λ x b q k. search (rules, tests)))
 
-pub returns-then-n-count : goal.returns-then-n-count
-returns-then-n-count c = let l = c.loop-t in
-    let e = c.if-n-count.true in
-    let w = c.if-w-eq0.false in
-    sym (hex-over _ _ _ l.t.now (omega (arith, ap length c.word-w.ensures))) ∙ (rw e at l.invariant.1)
-
-pub overflow_sub-k : goal.overflow_sub-k
-overflow_sub-k c = rw c.rest-r.ensures (rest-within c.loop-t.t.now)
-
-pub slice_bounds-t-count : goal.slice_bounds-t-count
-slice_bounds-t-count c = omega arith
-
-pub slice_bounds-t-start : goal.slice_bounds-t-start
-slice_bounds-t-start c = omega arith
-
-pub overflow_add-n : goal.overflow_add-n
-overflow_add-n c = omega arith
-
-pub loop-t-smaller : goal.loop-t-smaller
-loop-t-smaller c = let l = c.loop-t in
-    let w = c.if-w-eq0.false in
-    rw (go_on l.t.now c.rest-r.result.now c.rest-r.ensures)
-    (rest-shorter l.t.now (omega (arith, ap length c.word-w.ensures)))
-
-pub loop-t-preserved : goal.loop-t-preserved
-loop-t-preserved c = let l = c.loop-t in
-    let w = c.if-w-eq0.false in
-    let m = c.if-n-count.false in
-    let f = c.word-w.ensures in
-    rw (go_on l.t.now c.rest-r.result.now c.rest-r.ensures)
-    (omega arith, hex-next _ _ _ l.n l.t.now (omega (arith, ap length f)) (sym (rw f at c.is_hex.ensures) ∙ c.if-is_hex.true) ∙ l.invariant.1)
-
-pub returns-else-is_hex : goal.returns-else-is_hex
-returns-else-is_hex c = let l = c.loop-t in
-    let w = c.if-w-eq0.false in
-    let f = c.word-w.ensures in
-    sym (hex-other _ _ _ l.n l.t.now (omega (arith, ap length f)) (sym (rw f at c.is_hex.ensures) ∙ c.if-is_hex.false)) ∙ l.invariant.1
+pub returns-else-count : goal.returns-else-count
+unfolding are_hex all_hex_words
+returns-else-count c =
+    let ws = words_of c.args.s.now in
+    let n : c.count.result ≡ length ws = count_from_yields_List _ _ c.count.ensures.ran (YieldsList-from_first (λ x. x.now) (λ s. words_of s.text.now) {s = record { text = c.args.s }} ws refl) in
+    rw (lt-leb (length ws) c.args.count (omega (arith, n)), lt-leb c.count.result c.args.count (omega arith))

@@ -1,7 +1,6 @@
 -- `text::hex::is_hex` meets its contract: too few, too many, or as its bytes are.
 use borrow.Author.Tests.{le-leb, lt-leb}
 use Rattle.text.specs.Hex.{is_hex}
-use borrow.Author.Rules.{rules}
 use Rattle.text.proofs.hex.is_hex.Goals as goal
 
 pub returns-then-s-most : goal.returns-then-s-most

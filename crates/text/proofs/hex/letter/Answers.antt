@@ -1,7 +1,6 @@
 -- `text::hex::letter` meets its contract: a digit below ten, or a letter.
 use borrow.Author.Tests.{lt-ltb, le-ltb}
 use Rattle.text.specs.Hex.{hex_letter}
-use borrow.Author.Rules.{rules}
 use Rattle.text.proofs.hex.letter.Goals as goal
 
 pub returns-then-n-lt10 : goal.returns-then-n-lt10

@@ -1,16 +1,14 @@
--- `text::hex::put` meets its contract: no bytes, or the first one and then the others, each behind a space.
+-- `text::hex::put` meets its contract: nothing, or the first byte and then the others.
 use native.Mathlib.Omega.{arith}
-use Rattle.text.proofs.HexLaws.{text-none, text-some}
-use Rattle.text.specs.PutLaws.{put-none, put_both}
-use Rattle.text.specs.WordLaws.{part-all}
 use borrow.Author.Rules.{rules}
+use Rattle.text.specs.Hex.{hex_text}
+use Rattle.text.specs.PutLaws.{put-none, put_both}
+use Rattle.text.proofs.HexLaws.{text-none}
 use Rattle.text.proofs.hex.put.Goals as goal
 
-pub returns-then-bytes-eq0 : goal.returns-then-bytes-eq0
-returns-then-bytes-eq0 c = rw (text-none _ c.if-bytes-eq0.true) (put-none _ _)
+pub returns-in_default : goal.returns-in_default
+returns-in_default c = rw (text-none _ c.in_default.ensures.cases) (put-none _ _)
 
 pub returns : goal.returns
-returns c = let args = c.args in
-    let n = c.if-bytes-eq0.false in
-    rw (text-some args.bytes.now (omega arith))
-    (put_both c.put_pair-p.ensures (rw (part-all args.bytes.now 1) at c.put_rest.ensures) (omega arith))
+unfolding hex_text
+returns c = rw c.in-Some.ensures.cases.0 (put_both c.put_pair-p.ensures c.put_rest.ensures (omega (arith, c.in-Some.ensures.cases.1)))

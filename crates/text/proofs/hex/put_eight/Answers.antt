@@ -1,6 +1,5 @@
 -- `text::hex::put_eight` meets its contract: the eight bytes are the digits. The digit k places before the last is the last one of the number divided by 16 k times, or once by 16^k.
 use native.Mathlib.Nat.{div-div-eq-div-mul}
-use borrow.Author.Rules.{rules}
 use Rattle.text.specs.Hex.{hex_in}
 use Rattle.text.proofs.hex.put_eight.Goals as goal
 

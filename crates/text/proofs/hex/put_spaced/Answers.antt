@@ -1,5 +1,4 @@
 -- `text::hex::put_spaced` meets its contract: the three bytes are the space and the digits.
-use borrow.Author.Rules.{rules}
 use Rattle.text.proofs.hex.put_spaced.Goals as goal
 
 pub returns : goal.returns

@@ -2,7 +2,6 @@
 use Rattle.text.specs.WordSteps.{rest_of}
 use Rattle.text.specs.WordLaws.{part-all}
 use Rattle.text.specs.WordLaws.{word-within}
-use borrow.Author.Rules.{rules}
 use Rattle.text.proofs.words.rest.Goals as goal
 
 pub slice_bounds-result-count : goal.slice_bounds-result-count

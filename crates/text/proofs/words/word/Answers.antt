@@ -3,7 +3,6 @@ use mathlib.Core.Path.{sym}
 use lib.Seq.{length-take-le}
 use Rattle.text.specs.WordSteps.{word_of}
 use Rattle.text.specs.WordLaws.{word-within}
-use borrow.Author.Rules.{rules}
 use Rattle.text.proofs.words.word.Goals as goal
 
 pub slice_bounds-result-end : goal.slice_bounds-result-end
