@@ -3,8 +3,7 @@ use Rattle.std.specs.Prelude.{◌≡◌, refl, Bool, true, false, cond, List, []
 use Rattle.std.proofs.Common.{sym, ap, ◌∙◌, add-one, arith, drop-cons}
 use Rattle.std.proofs.Math.Seq.{drop-nil}
 use Rattle.framing.specs.declared.Collector.{Collector}
-use Rattle.framing.specs.declared.Fed.{Fed}
-use Rattle.framing.specs.Collector.{held, pushed, fed, heard_at, heard, fed_to}
+use Rattle.framing.specs.Collector.{Fed, held, pushed, fed, heard_at, heard, fed_to}
 
 -- FEEDING a AND THEN b IS FEEDING a ++ b
 pub fed-pieces : (node : ℕ) (c : Collector) (a b : List ℕ) → fed node c (a ++ b) ≡ fed node (fed node c a) b

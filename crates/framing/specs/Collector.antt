@@ -7,7 +7,6 @@ use Rattle.std.specs.Prelude.{true, false, cond, List, [], ◌∷◌, ℕ, ◌+�
 use Rattle.modbus.specs.Request.{most_bytes}
 use Rattle.framing.specs.Ends.{is_foreign, stops}
 use Rattle.framing.specs.declared.Collector.{Collector}
-use Rattle.framing.specs.declared.Fed.{Fed}
 
 -- one more than a frame can have
 abbrev pub most_held : ℕ
@@ -65,6 +64,14 @@ heard_at c l = cond c.ended (held c ∷ l) l
 unfoldable pub heard : ℕ → Collector → List ℕ → List (List ℕ)
 heard node c [] = []
 heard node c (b ∷ l) = heard_at (pushed node c b) (heard node (pushed node c b) l)
+
+-- what a collector made of bytes: the collector behind them, and the place behind the last byte taken
+pub record Fed : Type 0 where
+  pub collector : Collector
+  pub next : ℕ
+
+abbrev pub fed_by : Collector → ℕ → Fed
+fed_by c n = record { collector = c; next = n }
 
 -- the bytes up to the end of a frame, from place i on: the collector, and the place behind them
 unfoldable pub fed_to : ℕ → Collector → List ℕ → ℕ → Fed

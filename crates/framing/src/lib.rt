@@ -1,15 +1,16 @@
-// Finding frames on a serial line: the bytes are collected, by value, until they are a whole frame, or until silence.
+// Finding frames on a serial line: the bytes are collected until they are a whole frame, or until silence.
 // Uses `modbus` for what a frame is.
 #![tactic(auto)]
 
 ghost use Rattle.std.specs.Prelude.{◌≡◌, ◌≤◌, ◌<◌, length, drop};
 ghost use Rattle.framing.specs.Ends.{is_request, is_reply_long, is_reply, is_foreign};
-ghost use Rattle.framing.specs.Collector.{most_held, held_length, emptied, closed, fresh_collector, judged, added, kept, pushed, quieted, fed_to};
+ghost use Rattle.framing.specs.Collector.{most_held, held_length, emptied, fresh_collector, judged, added, kept, pushed, quieted, fed_by, fed_to};
 
 // The bytes that are held at most: one more than a frame has, so that a longer one is seen to be too long.
 const MOST_HELD: usize = modbus::MOST_BYTES + 1;
 
 // The bytes of a line since its last frame.
+// Kept: fixed memory, no heap: the bytes lie in an array, and their number beside it.
 #[derive(Clone, Copy)]
 pub struct Collector {
     // The bytes, and whatever stood behind them.
@@ -18,15 +19,6 @@ pub struct Collector {
     pub length: usize,
     // Whether they are a frame; the next byte then begins another.
     pub ended: bool,
-}
-
-// What a collector made of bytes.
-#[derive(Clone, Copy)]
-pub struct Fed {
-    // The collector behind them.
-    pub collector: Collector,
-    // The place behind the last byte taken: behind the end of a frame, or of the bytes.
-    pub next: usize,
 }
 
 // Whether the bytes are a whole request.
@@ -69,132 +61,105 @@ fn foreign(node: u8, f: &[u8]) -> bool
     address != 0 && address != node
 }
 
-// Nothing held.
-fn empty(c: Collector) -> Collector
-    ensures { result ≡ emptied c }
-{
-    let mut n = c;
-    n.length = 0;
-    n.ended = false;
-    n
-}
-
-// The bytes held as a frame.
-fn close(c: Collector) -> Collector
-    ensures { result ≡ closed c }
-{
-    let mut n = c;
-    n.ended = true;
-    n
-}
-
-// One byte behind the first `n`.
-fn add(c: Collector, n: usize, b: u8) -> Collector
-    requires { n < most_held }
-    ensures { result ≡ added c n b }
-{
-    let mut d = c;
-    d.bytes[n] = b;
-    d.length = n + 1;
-    d.ended = false;
-    d
-}
-
-// How many bytes a new one follows.
-fn still_held(c: Collector) -> usize
-    ensures { result ≡ kept c }
-{
-    if c.ended {
-        return 0;
-    }
-    c.length
-}
-
-// How many bytes of a collector are held: those of its frame, where one has ended.
-pub fn held_length(c: Collector) -> usize
-    ensures is { result ≡ held_length c }
-    ensures within { result ≤ most_held }
-{
-    if c.length <= MOST_HELD {
-        return c.length;
-    }
-    MOST_HELD
-}
-
-// A line on which nothing was sent.
-pub fn fresh() -> Collector
-    ensures { result ≡ fresh_collector }
-{
-    Collector {
-        bytes: [0; MOST_HELD],
-        length: 0,
-        ended: false,
-    }
-}
-
-// Whether the bytes held end a frame, to be taken or passed over.
-fn judge(node: u8, c: Collector) -> Collector
-    requires { (1 ≤ c.length) × (c.length ≤ most_held) }
-    ensures { result ≡ judged node c }
-{
-    let bytes = c.bytes;
-    let n = c.length;
-    let f = &bytes[..n];
-    let request = whole_request(f);
-    if foreign(node, f) {
-        if request {
-            return empty(c);
-        }
-        if whole_reply(f) {
-            return empty(c);
-        }
-        return c;
-    }
-    if request {
-        return close(c);
-    }
-    c
-}
-
-// One byte from the line.
-fn push(node: u8, c: Collector, b: u8) -> Collector
-    ensures { result ≡ pushed node c b }
-{
-    let n = still_held(c);
-    if n < MOST_HELD {
-        return judge(node, add(c, n, b));
-    }
-    c
-}
-
-// Silence on the line.
-pub fn silence(c: Collector) -> Collector
-    ensures { result ≡ quieted c }
-{
-    if still_held(c) == 0 {
-        return empty(c);
-    }
-    close(c)
-}
-
-// Takes bytes from place `at` on, up to the end of a frame or of the bytes.
-pub fn feed(node: u8, c: Collector, bytes: &[u8], at: usize) -> Fed
-    ensures { result ≡ fed_to node c (drop at bytes.now) at }
-{
-    let mut d = c;
-    let mut i = at;
-    while i < bytes.len() {
-        d = push(node, d, bytes[i]);
-        i += 1;
-        if d.ended {
-            return Fed {
-                collector: d,
-                next: i,
-            };
+impl Collector {
+    // A line on which nothing was sent.
+    pub fn fresh() -> Collector
+        ensures { result ≡ fresh_collector }
+    {
+        Collector {
+            bytes: [0; MOST_HELD],
+            length: 0,
+            ended: false,
         }
     }
-    Fed {
-        collector: d,
-        next: i,
+
+    // How many bytes are held: those of the frame, where one has ended.
+    #[tactic(auto, unfolding(crate::specs::Collector::held_length))]
+    pub fn held_length(&self) -> usize
+        ensures is { result ≡ held_length self.now }
+        ensures within { result ≤ most_held }
+    {
+        self.length.min(MOST_HELD)
+    }
+
+    // How many bytes a new one follows.
+    fn still_held(&self) -> usize
+        ensures { result ≡ kept self.now }
+    {
+        if self.ended {
+            return 0;
+        }
+        self.length
+    }
+
+    // Nothing held.
+    fn empty(&mut self)
+        ensures { self.new ≡ emptied self.old }
+    {
+        self.length = 0;
+        self.ended = false;
+    }
+
+    // One byte behind the first `n`.
+    fn add(&mut self, n: usize, b: u8)
+        requires { n < most_held }
+        ensures { self.new ≡ added self.old n b }
+    {
+        self.bytes[n] = b;
+        self.length = n + 1;
+        self.ended = false;
+    }
+
+    // Whether the bytes held end a frame, to be taken or passed over.
+    fn judge(&mut self, node: u8)
+        requires { (1 ≤ self.old.length) × (self.old.length ≤ most_held) }
+        ensures { self.new ≡ judged node self.old }
+    {
+        let f = &self.bytes[..self.length];
+        let request = whole_request(f);
+        if !foreign(node, f) {
+            if request {
+                self.ended = true;
+            }
+            return;
+        }
+        if request || whole_reply(f) {
+            self.empty();
+        }
+    }
+
+    // One byte from the line.
+    fn push(&mut self, node: u8, b: u8)
+        ensures { self.new ≡ pushed node self.old b }
+    {
+        let n = self.still_held();
+        if n < MOST_HELD {
+            self.add(n, b);
+            self.judge(node);
+        }
+    }
+
+    // Silence on the line.
+    pub fn silence(&mut self)
+        ensures { self.new ≡ quieted self.old }
+    {
+        if self.still_held() == 0 {
+            self.empty();
+            return;
+        }
+        self.ended = true;
+    }
+
+    // Takes bytes from place `at` on, up to the end of a frame or of the bytes, and gives the place behind the last byte taken.
+    pub fn feed(&mut self, node: u8, bytes: &[u8], at: usize) -> usize
+        ensures { fed_by self.new result ≡ fed_to node self.old (drop at bytes.now) at }
+    {
+        for i in at..bytes.len() {
+            self.push(node, bytes[i]);
+            if self.ended {
+                return i + 1;
+            }
+        }
+        at.max(bytes.len())
     }
 }

@@ -9,6 +9,7 @@ ghost use Rattle.modbus.specs.Replies.{longest_reply};
 
 use framing::Collector;
 use modbus::replies::Reply;
+use script::Command;
 use state::State;
 use std::env::Env;
 use std::fs::File;
@@ -17,24 +18,6 @@ use stream::Stream;
 
 mod files; // files.rt: what a line of TABLE or EVENTS and a frame do
 mod stream; // stream.rt: the lines of a file or a terminal
-
-// A table as far as TABLE was read.
-#[derive(Clone, Copy)]
-struct Table {
-    // Its words.
-    words: [i32; 104],
-    // Whether all its lines fit.
-    fits: bool,
-}
-
-// A panel and the events that come to it.
-#[derive(Clone, Copy)]
-struct Fed {
-    // The panel.
-    state: State,
-    // The lines of EVENTS.
-    events: Stream,
-}
 
 // What the slave reads and writes.
 #[derive(Drop)]
@@ -53,184 +36,129 @@ struct Wires {
 struct Slave {
     // Its node address.
     node: u8,
-    // Its panel and events.
-    fed: Fed,
+    // Its panel.
+    state: State,
+    // The lines of EVENTS.
+    events: Stream,
     // The bytes of the serial line since its last frame.
     line: Collector,
-    // Whether it goes on.
-    more: bool,
 }
 
-// The table that a file of `slot` lines gives: what is not named is the default.
-fn read_table(mut file: File, path: &[u8], errors: &mut Stderr) -> Table {
+// The table that a file of `slot` lines gives: what is not named is the default. None where a line is refused or a read fails, which is told.
+fn read_table(mut file: File, path: &[u8], errors: &mut Stderr) -> Option<[i32; 104]> {
     let mut words = parameters::rows::defaults();
-    let mut s = stream::fresh();
-    let mut turns = u64::MAX;
-    while turns > 0 {
-        s = stream::next(s, &mut file);
-        if !s.found {
-            break;
+    let mut s = Stream::fresh();
+    for _ in 0..u64::MAX {
+        match s.next(&mut file) {
+            Ok(Some(command)) => match files::table_line(words, command) {
+                Some(next) => words = next,
+                None => {
+                    s.refuse(b"TABLE", errors);
+                    return None;
+                }
+            },
+            Ok(None) => return Some(words),
+            Err(e) => {
+                ports::write_failure(errors, path, e);
+                return None;
+            }
         }
-        let line = s.line;
-        let l = files::table_line(words, stream::asked(line));
-        words = l.table;
-        if !l.fits {
-            stream::refuse(s, b"TABLE", errors);
-            return Table { words, fits: false };
-        }
-        turns -= 1;
     }
-    Table {
-        words,
-        fits: is_whole(s, path, errors),
-    }
-}
-
-// Whether the last read did not fail; one that failed is told.
-fn is_whole(s: Stream, path: &[u8], errors: &mut Stderr) -> bool {
-    match s.failure {
-        Some(e) => {
-            ports::write_failure(errors, path, e);
-            false
-        }
-        None => true,
-    }
-}
-
-// The panel after a line of EVENTS.
-fn take_event(state: State, events: Stream, errors: &mut Stderr) -> State
-    requires { Good state }
-    ensures { Good result }
-{
-    let line = events.line;
-    let x = files::event_line(state, stream::asked(line));
-    if !x.fits {
-        stream::refuse(events, b"EVENTS", errors);
-    }
-    x.state
-}
-
-// The panel after all lines of EVENTS that are there.
-fn drained_of(x: Fed, file: &mut File, errors: &mut Stderr) -> Fed
-    requires { Good x.state }
-    ensures { Good result.state }
-{
-    let mut events = x.events;
-    let mut state = x.state;
-    let mut turns = u64::MAX;
-    while turns > 0 {
-        events = stream::next(events, file);
-        if !events.found {
-            return Fed { state, events };
-        }
-        state = take_event(state, events, errors);
-        turns -= 1;
-    }
-    Fed { state, events }
-}
-
-// The same where there may be no EVENTS.
-fn drained(x: Fed, wires: &mut Wires) -> Fed
-    requires { Good x.state }
-    ensures { Good result.state }
-{
-    match &mut wires.events {
-        Some(file) => drained_of(x, file, &mut wires.errors),
-        None => x,
-    }
+    Some(words)
 }
 
 // Writes a reply at once, and says whether it went out.
 fn send(reply: Reply, output: &mut Stdout) -> bool
     requires { reply.length ≤ longest_reply }
 {
-    let bytes = reply.bytes;
     let n = reply.length;
-    ports::write_all(output, &bytes[..n])
+    ports::write_all(output, &reply.bytes[..n])
 }
 
-// Answers the frame that the serial line holds, from the panel after the events that are there.
-fn answered(x: Slave, wires: &mut Wires) -> Slave
-    requires { Good x.fed.state }
-    ensures { Good result.fed.state }
-{
-    let before = x.fed;
-    let fed = drained(before, wires);
-    let panel = fed.state;
-    let events = fed.events;
-    let line = x.line;
-    let r = files::frame(x.node, panel, line);
-    let state = r.state;
-    let reply = r.reply;
-    Slave {
-        node: x.node,
-        fed: Fed { state, events },
-        line,
-        more: send(reply, &mut wires.output),
+impl Slave {
+    // Takes a line of EVENTS; one that is wrong is told, and changes nothing.
+    fn take_event(&mut self, command: Command, errors: &mut Stderr)
+        requires { Good self.old.state }
+        ensures { Good self.new.state }
+    {
+        match files::event_line(self.state, command) {
+            Some(state) => self.state = state,
+            None => self.events.refuse(b"EVENTS", errors),
+        }
     }
-}
 
-// The slave with what its line holds now; a frame that has ended is answered.
-fn heard(x: Slave, line: Collector, wires: &mut Wires) -> Slave
-    requires { Good x.fed.state }
-    ensures { Good result.fed.state }
-{
-    let mut y = x;
-    y.line = line;
-    if line.ended {
-        return answered(y, wires);
+    // Takes all lines of EVENTS that are there.
+    fn drain(&mut self, file: &mut File, errors: &mut Stderr)
+        requires { Good self.old.state }
+        ensures { Good self.new.state }
+    {
+        for _ in 0..u64::MAX {
+            match self.events.next(file) {
+                Ok(Some(command)) => self.take_event(command, errors),
+                _ => return,
+            }
+        }
     }
-    y
-}
 
-// The slave after bytes of the line.
-fn after_bytes(x: Slave, bytes: &[u8], wires: &mut Wires) -> Slave
-    requires { Good x.fed.state }
-    ensures { Good result.fed.state }
-{
-    let mut y = x;
-    let mut at: usize = 0;
-    while at < bytes.len() {
-        let line = y.line;
-        let f = framing::feed(y.node, line, bytes, at);
-        let next = f.collector;
-        y = heard(y, next, wires);
-        at = f.next;
+    // The same where there may be no EVENTS.
+    fn take_events(&mut self, wires: &mut Wires)
+        requires { Good self.old.state }
+        ensures { Good self.new.state }
+    {
+        if let Some(file) = &mut wires.events {
+            self.drain(file, &mut wires.errors);
+        }
     }
-    y
-}
 
-// The slave after a silence of the line: a terminal only pauses, a file has ended. The events are drained here too, so that they do not pile up while
-// nobody asks, and a wrong line is named soon.
-fn after_silence(x: Slave, wires: &mut Wires) -> Slave
-    requires { Good x.fed.state }
-    ensures { Good result.fed.state }
-{
-    let before = x.fed;
-    let fed = drained(before, wires);
-    let mut y = x;
-    y.fed = fed;
-    let line = y.line;
-    let mut z = heard(y, framing::silence(line), wires);
-    if !wires.input.is_terminal() {
-        z.more = false;
+    // Answers the frame that the serial line holds, from the panel after the events that are there. Says whether the reply went out.
+    fn answer(&mut self, wires: &mut Wires) -> bool
+        requires { Good self.old.state }
+        ensures { Good self.new.state }
+    {
+        self.take_events(wires);
+        let r = files::frame(self.node, self.state, &self.line);
+        self.state = r.state;
+        send(r.reply, &mut wires.output)
     }
-    z
-}
 
-// The slave after one read of the line.
-fn after_read(x: Slave, wires: &mut Wires) -> Slave
-    requires { Good x.fed.state }
-    ensures { Good result.fed.state }
-{
-    let mut bytes = [0u8; 256];
-    match wires.input.read(&mut bytes) {
-        Ok(0) => after_silence(x, wires),
-        Ok(n) => after_bytes(x, &bytes[..n], wires),
-        Err(_) => {
-            let mut y = x;
-            y.more = false;
-            y
+    // Takes bytes of the line; a frame that has ended is answered. Says whether the last reply went out.
+    fn take_bytes(&mut self, bytes: &[u8], wires: &mut Wires) -> bool
+        requires { Good self.old.state }
+        ensures { Good self.new.state }
+    {
+        let mut more = true;
+        let mut at: usize = 0;
+        while at < bytes.len() {
+            at = self.line.feed(self.node, bytes, at);
+            if self.line.ended {
+                more = self.answer(wires);
+            }
+        }
+        more
+    }
+
+    // Takes a silence of the line: a terminal only pauses, a file has ended. The events are taken here too, so that they do not pile up while
+    // nobody asks, and a wrong line is named soon.
+    fn take_silence(&mut self, wires: &mut Wires) -> bool
+        requires { Good self.old.state }
+        ensures { Good self.new.state }
+    {
+        self.take_events(wires);
+        self.line.silence();
+        let more = !self.line.ended || self.answer(wires);
+        wires.input.is_terminal() && more
+    }
+
+    // One read of the line. Says whether the slave goes on.
+    fn read(&mut self, wires: &mut Wires) -> bool
+        requires { Good self.old.state }
+        ensures { Good self.new.state }
+    {
+        let mut bytes = [0u8; 256];
+        match wires.input.read(&mut bytes) {
+            Ok(0) => self.take_silence(wires),
+            Ok(n) => self.take_bytes(&bytes[..n], wires),
+            Err(_) => false,
         }
     }
 }
@@ -239,20 +167,16 @@ fn after_read(x: Slave, wires: &mut Wires) -> Slave
 fn serve(node: u8, state: State, wires: &mut Wires)
     requires { Good state }
 {
-    let events = stream::fresh();
-    let mut x = Slave {
+    let mut slave = Slave {
         node,
-        fed: Fed { state, events },
-        line: framing::fresh(),
-        more: true,
+        state,
+        events: Stream::fresh(),
+        line: Collector::fresh(),
     };
-    let mut turns = u64::MAX;
-    while turns > 0 {
-        x = after_read(x, wires);
-        if !x.more {
+    for _ in 0..u64::MAX {
+        if !slave.read(wires) {
             return;
         }
-        turns -= 1;
     }
 }
 
@@ -299,13 +223,10 @@ fn start(node: u32, words: [i32; 104], rt: HostRuntime) {
 
 // A number from 0 to 65535; another one stands for 0, which is no node address either.
 fn limited(z: i64) -> u32 {
-    if z < 0 {
-        return 0;
+    match u16::try_from(z) {
+        Ok(n) => u32::from(n),
+        Err(_) => 0,
     }
-    if 65535 < z {
-        return 0;
-    }
-    z as u32
 }
 
 // The node address of argument 1; 0 where it is no number.
@@ -328,9 +249,7 @@ fn main(rt: HostRuntime) {
     let n = ports::arg(&rt, 2, &mut path);
     match ports::open_read(&rt, &path[..n]) {
         Ok(file) => {
-            let t = read_table(file, &path[..n], &mut errors);
-            let words = t.words;
-            if t.fits {
+            if let Some(words) = read_table(file, &path[..n], &mut errors) {
                 start(node(&rt), words, rt);
             }
         }

@@ -1,12 +1,12 @@
 -- `slave::files::table_line` meets its contract: a blank line, a slot, and every other command.
-use Rattle.std.proofs.Common.{◌≡◌, ℕ, List, ℤ, refl, w32, rules}
+use Rattle.std.proofs.Common.{◌≡◌, ℕ, List, ℤ, None, refl, sym, w32, rules}
 use Rattle.integers.specs.IntLaws.{bk}
 use Rattle.script.specs.declared.Command.{Command}
 use Rattle.script.specs.declared.Command.TheVariants.{Blank, Wrong, Node, Slot, Start, Halves, Record, Telegram, Burst, Levels, Tick, Frame}
-use Rattle.slave.specs.Files.{unlisted, listed_of}
+use Rattle.slave.specs.Files.{listed_of}
 use Rattle.slave.proofs.files.table_line.Goals as goal
 
-others : (t : List ℤ) (c : Command) → (c ≡ Blank → ⊥) → ((n : ℕ) (z : ℤ) → c ≡ Slot n z → ⊥) → unlisted t ≡ listed_of t c
+others : (t : List ℤ) (c : Command) → (c ≡ Blank → ⊥) → ((n : ℕ) (z : ℤ) → c ≡ Slot n z → ⊥) → listed_of t c ≡ None
 unfolding listed_of
 others t Blank b s = absurd (b refl)
 others t (Slot n z) b s = absurd (s n z refl)
@@ -32,4 +32,4 @@ returns-in-Slot c =
     rw (c.in-Slot.is, c.changed.ensures, z)
 
 pub returns-in_default : goal.returns-in_default
-returns-in_default c = others c.args.t c.args.c c.in_default.not-Blank c.in_default.not-Slot
+returns-in_default c = sym (others c.args.t c.args.c c.in_default.not-Blank c.in_default.not-Slot)

@@ -1,5 +1,5 @@
 -- `slave::stream::write_line` is safe: what is held of a line is within its array.
-use Rattle.std.proofs.Common.{◌≡◌, length, sym, arith, length-take-le, rules}
+use Rattle.std.proofs.Common.{◌≡◌, length, arith, rules}
 use Rattle.script.specs.Collector.{most}
 use Rattle.slave.proofs.stream.write_line.Goals as goal
 

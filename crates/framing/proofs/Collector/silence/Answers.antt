@@ -1,7 +1,7 @@
--- `framing::silence` meets its contract: its test is the definition's.
-use borrow.Author.Tests.{eq-eqb, ne_eqb}
+-- `framing::Collector::silence` meets its contract: its test is the definition's.
+use Rattle.std.proofs.Common.{eq-eqb, ne_eqb}
 use Rattle.framing.specs.Collector.{quieted}
-use Rattle.framing.proofs.silence.Goals as goal
+use Rattle.framing.proofs.Collector.silence.Goals as goal
 
 pub returns-then-still_held-eq0 : goal.returns-then-still_held-eq0
 unfolding quieted
@@ -9,4 +9,4 @@ returns-then-still_held-eq0 c = rw (← c.still_held.ensures, eq-eqb _ _ c.if-st
 
 pub returns : goal.returns
 unfolding quieted
-returns c = rw (← c.still_held.ensures, ne_eqb _ _ c.if-still_held-eq0.false, c.close.ensures)
+returns c = rw (← c.still_held.ensures, ne_eqb _ _ c.if-still_held-eq0.false)

@@ -1,9 +1,0 @@
--- `slave::read_table` is safe and ends. The measure is the number of lines left.
-use Rattle.std.proofs.Common.{rules}
-use Rattle.slave.proofs.read_table.Goals as goal
-
-pub loop-turns-init : goal.loop-turns-init
-loop-turns-init c = tt
-
-pub loop-turns-preserved : goal.loop-turns-preserved
-loop-turns-preserved c = tt
