@@ -1,6 +1,6 @@
 -- While no command stores a preselection, each condition of a run obeys the law of its mode from event to event: commands leave conditions as they are, a settled
 -- event turns them by the mode's rule on the result answered, ticks and refusals keep them. A teach is the only command that writes a preselection.
-use Rattle.std.specs.Prelude.{is_none, ◌≡◌, Bool, true, false, not, ◌&&◌, ◌||◌, ℕ, zero, suc, ◌<◌, T, eqb, leb, ℤ, pos, length}
+use Rattle.std.specs.Prelude.{is_none, ◌≡◌, Bool, true, false, not, ◌&&◌, ◌||◌, ℕ, zero, suc, ◌<◌, T, leb, ℤ, pos, length}
 use Rattle.std.proofs.Math.Path.{refl, subst}
 use Rattle.std.proofs.Common.{sym, ap, ◌∙◌, arith}
 use mathlib.Core.List.{List, [], ◌∷◌}

@@ -15,14 +15,11 @@ use panel::Answer;
 pub fn event_of(w: u64) -> Event
     ensures { result ≡ event_of w }
 {
-    let kind = w / 4294967296;
-    if kind == 0 {
-        return Event::Tick((w % 65536) as u16);
+    match w / 4294967296 {
+        0 => Event::Tick((w % 65536) as u16),
+        1 => Event::Levels((w % 256) as u8),
+        _ => Event::Telegram((w % 4294967296) as u32),
     }
-    if kind == 1 {
-        return Event::Levels((w % 256) as u8);
-    }
-    Event::Telegram((w % 4294967296) as u32)
 }
 
 // The answer to the last of a list of events, from the answer before them.
