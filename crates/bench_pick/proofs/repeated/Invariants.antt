@@ -1,8 +1,0 @@
--- `bench_pick::repeated` is safe and ends. The measure is the number of rounds left.
-use Rattle.bench_pick.proofs.repeated.Given as goal
-
-abbrev pub invariant-loop-left : goal.invariant-loop-left
-invariant-loop-left l = Unit {0}
-
-abbrev pub decreases-loop-left : goal.decreases-loop-left
-decreases-loop-left l = l.left
