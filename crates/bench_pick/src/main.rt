@@ -1,20 +1,14 @@
 // Steps of a dispatcher again and again, for bench/run to time, and a sum over what they answer (paper 02, K12).
 // Standard input: steps of 2 bytes, kind and address, at most 4,096; a single byte that is left over is left out. Kind 0 is a pick, 1 a join, 2 a report of none, 3 a report of an error; another does nothing.
 // The first 64 steps are run once, those behind them as often as the argument says.
-// Uses `dispatcher` for the steps, `decimal` for the argument, and `ports` to read and write.
+// Uses `dispatcher` for the steps, `timing` for the argument and the sum, and `ports` to read.
 #![tactic(auto)]
 
 use dispatcher::Dispatcher;
-use std::env::Env;
+use timing::{mixed, rounds};
 
 // The bytes of the steps that are run once.
 const FIRST: usize = 128;
-
-// 31 times the sum and a number, modulo 2^64.
-fn mixed(sum: u64, n: u64) -> u64 {
-    let times_31 = std::num::wrapping_sub_u64(sum << 5, sum);
-    std::num::wrapping_add_u64(times_31, n)
-}
 
 // One step.
 fn step(d: &mut Dispatcher, sum: u64, kind: u8, address: u8) -> u64 {
@@ -46,24 +40,6 @@ fn repeated(d: &mut Dispatcher, sum: u64, bytes: &[u8], rounds: u64) -> u64 {
     n
 }
 
-// The argument as a number, 0 where it is none.
-fn rounds<E: Env>(env: &E) -> u64 {
-    let mut word = [0u8; 32];
-    let n = ports::arg(env, 1, &mut word);
-    match decimal::parse(&word[..n]) {
-        Some(z) => unsigned(z),
-        None => 0,
-    }
-}
-
-// A number that is not negative, else 0.
-fn unsigned(z: i64) -> u64 {
-    if z < 0 {
-        return 0;
-    }
-    z as u64
-}
-
 // The sum over the steps of the bytes.
 fn timed(bytes: &[u8], rounds: u64) -> u64 {
     let mut d = dispatcher::fresh();
@@ -78,6 +54,5 @@ fn main(rt: HostRuntime) {
     let mut bytes = [0u8; 8192];
     let n = ports::read_full(&mut input, &mut bytes);
     let sum = timed(&bytes[..n], rounds(&rt));
-    ports::print_decimal(&mut output, sum);
-    ports::write_all(&mut output, b"\n");
+    timing::tell(&mut output, sum);
 }

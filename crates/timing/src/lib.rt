@@ -12,6 +12,15 @@ use driverecord::DriveRecord;
 use std::env::Env;
 use std::io::Write;
 
+// What the rounds have come to.
+#[derive(Clone, Copy)]
+pub struct Summed<S> {
+    // What the next answer is made from.
+    pub live: S,
+    // The sum over the answers so far.
+    pub sum: u64,
+}
+
 // The number of a word that is not negative, else 0.
 fn count(word: &[u8]) -> u64
     ensures { result ≡ rounds_of word.now }
