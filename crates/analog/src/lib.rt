@@ -76,6 +76,7 @@ fn rounded(format: u32, start: i32, end: i32, r: i32) -> Rounded
     integers::round_div(full_scale(format) * upper(start, end, r), lower(start, end))
 }
 
+// Kept: the format is a number, since `code` takes any one; 2 and above are one format.
 // The code of the result r between start and end in an analog format: 0 is ±10 V, 1 is 0..20 mA, 2 and above are 4..20 mA.
 pub fn code(format: u32, start: i32, end: i32, r: i32) -> Coded
     ensures { result ≡ coded_of format start end r }

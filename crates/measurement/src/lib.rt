@@ -53,6 +53,7 @@ pub struct Measurement {
 }
 
 // How a position becomes a result: the numbers as the table has them.
+// Kept: direction, round loop and linearization are numbers, since `measure` and `directed` take any number there; an enum would ask more.
 #[derive(Clone, Copy)]
 pub struct Scaling {
     // 1 where the encoder counts the other way.

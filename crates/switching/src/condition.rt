@@ -73,6 +73,7 @@ fn on_near(r: i64, p: i64, h: u32) -> bool
     2 * d <= h as i64
 }
 
+// Kept: the mode is a number, since the contract holds of any one; 6 and above are one mode.
 // The condition after an event: from the mode, the result, the own and the partner's preselection, the hysteresis, and the condition before.
 pub fn condition(mode: u32, r: i32, own: i32, partner: i32, h: u32, was: bool) -> bool
     ensures { result ≡ condition_of mode r own partner h was }

@@ -9,6 +9,7 @@ ghost use Rattle.std.specs.Prelude.{◌≡◌, ◌-◌, ◌<◌};
 ghost use Rattle.switching.specs.Switching.{fresh_switch, suppresses, released_of, held_of, pulse_of, signal_of, active_of, conditioned_of, locked_of, switched_of, ticked_of, unlocked_of, partner_of, switched_at, all_switched, all_ticked, all_unlocked};
 
 // The settings of one preselection, with P in force.
+// Kept: mode, target, polarity, lock and startup are numbers as a table has them, since `switch_all` and `output::outputs` take any number there; an enum would ask more.
 #[derive(Clone, Copy)]
 pub struct Preselection {
     // P, the number that the result is compared with.
