@@ -214,9 +214,11 @@ fn build(t: &[i32; 104], position: u32, error: bool, out: &mut [u8]) -> usize
     requires { Valid t.now × (longest ≤ length out.old) }
     ensures { Put out.old 0 (build_text t.now position error) result out.new }
 {
-    let b = panel::build(t, position, error);
     let p1 = text::put_bytes(out, 0, b"build ");
-    put_numbers(out, p1, position, b.refusal as u32, b.telegram)
+    match panel::build(t, position, error) {
+        Ok(telegram) => put_numbers(out, p1, position, 0, telegram),
+        Err(refusal) => put_numbers(out, p1, position, refusal.number(), 0),
+    }
 }
 
 // What a telegram says under a table.
@@ -224,9 +226,11 @@ fn content(t: &[i32; 104], telegram: u32, out: &mut [u8]) -> usize
     requires { Valid t.now × (longest ≤ length out.old) }
     ensures { Put out.old 0 (read_text t.now telegram) result out.new }
 {
-    let r = ssi::content_of(settings::layout(t), telegram);
     let p1 = text::put_bytes(out, 0, b"read ");
-    put_numbers(out, p1, r.refusal as u32, r.position, r.error as u32)
+    match ssi::content_of(settings::layout(t), telegram) {
+        Ok(c) => put_numbers(out, p1, 0, c.position, c.error as u32),
+        Err(refusal) => put_numbers(out, p1, refusal.number(), 0, 0),
+    }
 }
 
 // The diagnosis of a telegram under a table.
@@ -234,9 +238,11 @@ fn diagnosis(t: &[i32; 104], telegram: u32, out: &mut [u8]) -> usize
     requires { Valid t.now × (longest ≤ length out.old) }
     ensures { Put out.old 0 (diagnose_text t.now telegram) result out.new }
 {
-    let d = panel::diagnose(t, telegram);
     let p1 = text::put_bytes(out, 0, b"diagnose ");
-    put_numbers(out, p1, d.refusal as u32, d.turns, d.place)
+    match panel::diagnose(t, telegram) {
+        Ok(d) => put_numbers(out, p1, 0, d.turns, d.place),
+        Err(refusal) => put_numbers(out, p1, refusal.number(), 0, 0),
+    }
 }
 
 // Least and greatest.

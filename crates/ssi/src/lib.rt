@@ -6,8 +6,8 @@ pub mod doubling; // doubling.rt: the position in fewer steps, for bursts
 
 ghost use Rattle.std.specs.Prelude.{◌≡◌, ◌&&◌, ◌-◌, ◌^◌, ◌≤◌, ◌<◌, eqb};
 ghost use Rattle.ssi.specs.Sound.{Sound, error_bit};
-ghost use Rattle.ssi.specs.Telegram.{accepted, level_of, error_reported, without_bit, gray_decoded, decoded, width_of, modulus, position_of, content_of, diagnosis_of};
-ghost use Rattle.ssi.specs.Builder.{coded, level_asked, telegram_of, refused, built_of};
+ghost use Rattle.ssi.specs.Telegram.{refusal_number, accepted, level_of, error_reported, without_bit, gray_decoded, decoded, width_of, modulus, position_of, content_of, diagnosis_of};
+ghost use Rattle.ssi.specs.Builder.{coded, level_asked, telegram_of, built_of};
 
 // How a telegram is laid out, as the table has it.
 #[derive(Clone, Copy)]
@@ -26,12 +26,34 @@ pub struct Layout {
     pub error_level: u32,
 }
 
+// Why a telegram is not read, or none is built.
+#[derive(Clone, Copy)]
+pub enum Refusal {
+    // The telegram has a bit above N.
+    BitAbove,
+    // The position is M or more.
+    PositionAbove,
+    // An error is asked for where no error bit is set up.
+    NoErrorBit,
+}
+
+impl Refusal {
+    // The number of a refusal.
+    pub fn number(self) -> u32
+        ensures { result ≡ refusal_number self }
+    {
+        match self {
+            Refusal::BitAbove => 11,
+            Refusal::PositionAbove => 17,
+            Refusal::NoErrorBit => 18,
+        }
+    }
+}
+
 // What a telegram says.
 #[derive(Clone, Copy)]
 pub struct Content {
-    // 0, or 11 for a telegram with a bit above N.
-    pub refusal: u8,
-    // The position p, 0 with a refusal.
+    // The position p.
     pub position: u32,
     // Whether the error bit stands at its error level.
     pub error: bool,
@@ -40,21 +62,10 @@ pub struct Content {
 // A position split by the bits per turn.
 #[derive(Clone, Copy)]
 pub struct Diagnosis {
-    // 0, or 11 for a telegram with a bit above N.
-    pub refusal: u8,
-    // The whole turns, 0 with a refusal.
+    // The whole turns.
     pub turns: u32,
-    // The place within the turn, 0 with a refusal.
+    // The place within the turn.
     pub place: u32,
-}
-
-// What the builder answers.
-#[derive(Clone, Copy)]
-pub struct Built {
-    // 0; 17 for a position of M or more; 18 for an error asked for where no error bit is set up.
-    pub refusal: u8,
-    // The telegram, 0 with a refusal.
-    pub telegram: u32,
 }
 
 // The `width` low bits set. No shift by 32 is made.
@@ -95,28 +106,36 @@ fn without(t: u32, n: u32) -> u32
     t & !(1 << (n - 1))
 }
 
-// The position's n bits of a Gray telegram of n bits, from the top down: each is 1 when an odd number of ones stands at it and above.
-fn gray(t: u32, n: u32) -> u32
-    requires { (1 ≤ n) × (n ≤ 32) }
-    ensures { result ≡ gray_decoded n n t }
-{
-    let own = t & mask(n);
-    let mut p: u32 = 0;
-    let mut k = n;
-    while k > 0 {
-        k -= 1;
-        p = 2 * p + u32::count_ones(own >> k) % 2;
+// A way to decode Gray.
+trait Gray {
+    // The position's n bits of a Gray telegram of n bits.
+    fn bits(t: u32, n: u32) -> u32
+        requires { (1 ≤ n) × (n ≤ 32) }
+        ensures { result ≡ gray_decoded n n t };
+}
+
+// Gray by counts of ones.
+struct Counting;
+
+impl Gray for Counting {
+    // From the top down: each bit is 1 when an odd number of ones stands at it and above.
+    fn bits(t: u32, n: u32) -> u32 {
+        let own = t & mask(n);
+        let mut p: u32 = 0;
+        for k in (0..n).rev() {
+            p = 2 * p + (own >> k).count_ones() % 2;
+        }
+        p
     }
-    p
 }
 
 // The bits that hold the position, by format.
-fn decode(format: u32, n: u32, t: u32) -> u32
+fn decode<G: Gray>(format: u32, n: u32, t: u32) -> u32
     requires { (1 ≤ n) × (n ≤ 32) }
     ensures { result ≡ decoded format n t }
 {
     if format == 0 {
-        return gray(t, n);
+        return G::bits(t, n);
     }
     t
 }
@@ -137,52 +156,47 @@ pub fn error_reported(l: Layout, t: u32) -> bool
     l.error_bit != 0 && level(t, l.error_bit) == l.error_level
 }
 
+// The position p by one way to decode Gray; bits above N do not count.
+fn position_by<G: Gray>(l: Layout, t: u32) -> u32
+    requires { Sound l }
+    ensures { result ≡ position_of l t }
+{
+    let bits = decode::<G>(l.format, l.resolution, without(t, l.error_bit));
+    (bits >> (l.low - 1)) & mask(width(l))
+}
+
 // The position p; bits above N do not count.
 pub fn position(l: Layout, t: u32) -> u32
     requires { Sound l }
     ensures { result ≡ position_of l t }
 {
-    let bits = decode(l.format, l.resolution, without(t, l.error_bit));
-    (bits >> (l.low - 1)) & mask(width(l))
+    position_by::<Counting>(l, t)
 }
 
 // A telegram read: its position and its error, or 11.
-pub fn content_of(l: Layout, t: u32) -> Content
+pub fn content_of(l: Layout, t: u32) -> Result<Content, Refusal>
     requires { Sound l }
     ensures { result ≡ content_of l t }
 {
     if accepts(l, t) {
-        return Content {
-            refusal: 0,
+        return Ok(Content {
             position: position(l, t),
             error: error_reported(l, t),
-        };
+        });
     }
-    Content {
-        refusal: 11,
-        position: 0,
-        error: false,
-    }
+    Err(Refusal::BitAbove)
 }
 
 // The diagnosis of a telegram by itself: turns and place within the turn, or 11.
-pub fn diagnose(l: Layout, bits_per_turn: u32, t: u32) -> Diagnosis
+pub fn diagnose(l: Layout, bits_per_turn: u32, t: u32) -> Result<Diagnosis, Refusal>
     requires { Sound l × (1 ≤ bits_per_turn) × (bits_per_turn < 32) }
     ensures { result ≡ diagnosis_of l bits_per_turn t }
 {
-    if accepts(l, t) {
-        let p = position(l, t);
-        return Diagnosis {
-            refusal: 0,
-            turns: p >> bits_per_turn,
-            place: p & mask(bits_per_turn),
-        };
-    }
-    Diagnosis {
-        refusal: 11,
-        turns: 0,
-        place: 0,
-    }
+    let p = content_of(l, t)?.position;
+    Ok(Diagnosis {
+        turns: p >> bits_per_turn,
+        place: p & mask(bits_per_turn),
+    })
 }
 
 // The position as the telegram carries it, by format.
@@ -225,29 +239,16 @@ fn lacks_error_bit(l: Layout, error: bool) -> bool
     error && l.error_bit == 0
 }
 
-// A position that is not built.
-fn refuse(number: u8) -> Built
-    ensures { result ≡ refused number }
-{
-    Built {
-        refusal: number,
-        telegram: 0,
-    }
-}
-
-// The telegram of a position, with the error bit at its error level exactly when the error is asked for.
-pub fn build(l: Layout, position: u32, error: bool) -> Built
+// The telegram of a position, with the error bit at its error level exactly when the error is asked for; or 17 or 18.
+pub fn build(l: Layout, position: u32, error: bool) -> Result<u32, Refusal>
     requires { Sound l }
     ensures { result ≡ built_of l position error }
 {
     if mask(width(l)) < position {
-        return refuse(17);
+        return Err(Refusal::PositionAbove);
     }
     if lacks_error_bit(l, error) {
-        return refuse(18);
+        return Err(Refusal::NoErrorBit);
     }
-    Built {
-        refusal: 0,
-        telegram: telegram(l, position, error),
-    }
+    Ok(telegram(l, position, error))
 }

@@ -1,7 +1,6 @@
 -- `ssi::accepts` meets its contract: at most the mask of N bits is below 2 to the power N.
 use Rattle.ssi.specs.Telegram.{accepted}
 use Rattle.ssi.proofs.Arms.{mask-leb}
-use borrow.Author.Rules.{rules}
 use Rattle.ssi.proofs.accepts.Goals as goal
 
 pub returns : goal.returns

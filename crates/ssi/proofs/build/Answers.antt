@@ -6,7 +6,6 @@ use borrow.Author.Tests.{le-leb, lt-leb}
 use lib.Pow.{suc_ones}
 use Rattle.ssi.specs.Telegram.{modulus}
 use Rattle.ssi.specs.Builder.{built_of}
-use borrow.Author.Rules.{rules}
 use Rattle.ssi.proofs.build.Goals as goal
 
 pub returns-then-mask-position : goal.returns-then-mask-position
@@ -16,7 +15,7 @@ returns-then-mask-position c =
     ap suc c.mask.ensures ∙ suc_ones c.width.result ∙ ap (λ (x : ℕ). 2 ^ x) c.width.ensures in
     let too-big : modulus c.args.l ≤ c.args.position =
     omega (arith, mask-modulus, c.if-mask-position.true) in
-    rw (c.refuse.ensures, le-leb _ _ (too-big))
+    rw (le-leb _ _ (too-big))
 
 pub returns-then-lacks_error_bit : goal.returns-then-lacks_error_bit
 unfolding built_of
@@ -25,7 +24,7 @@ returns-then-lacks_error_bit c =
     ap suc c.mask.ensures ∙ suc_ones c.width.result ∙ ap (λ (x : ℕ). 2 ^ x) c.width.ensures in
     let small : c.args.position < modulus c.args.l =
     omega (arith, mask-modulus, c.if-mask-position.false) in
-    rw (c.refuse-then-lacks_error_bit.ensures, lt-leb _ _ (small), sym c.lacks_error_bit.ensures ∙ c.if-lacks_error_bit.true)
+    rw (lt-leb _ _ (small), sym c.lacks_error_bit.ensures ∙ c.if-lacks_error_bit.true)
 
 pub telegram-requires : goal.telegram-requires
 telegram-requires c =

@@ -1,7 +1,6 @@
 -- `ssi::content_of` meets its contract: the test of acceptance decides, and the callees give the position and the error.
 use mathlib.Core.Path.{sym, ◌∙◌}
 use Rattle.ssi.specs.Telegram.{content_of}
-use borrow.Author.Rules.{rules}
 use Rattle.ssi.proofs.content_of.Goals as goal
 
 pub returns-then-accepts : goal.returns-then-accepts

@@ -2,7 +2,6 @@
 use Rattle.ssi.specs.Sound.{error_bit}
 use Rattle.ssi.specs.Telegram.{error_reported}
 use Rattle.ssi.proofs.Arms.{set-up}
-use borrow.Author.Rules.{rules}
 use Rattle.ssi.proofs.error_reported.Goals as goal
 
 pub returns-then-l-ne0 : goal.returns-then-l-ne0

@@ -1,5 +1,4 @@
 -- `ssi::lacks_error_bit` meets its contract: where an error is asked for, the test of the error bit decides.
-use borrow.Author.Rules.{rules}
 use Rattle.ssi.proofs.lacks_error_bit.Goals as goal
 
 pub returns-then-error : goal.returns-then-error

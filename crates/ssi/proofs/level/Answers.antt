@@ -1,6 +1,5 @@
 -- `ssi::level` meets its contract: the bit is shifted down to the lowest, which is kept alone.
 use Rattle.ssi.proofs.Arms.{level-is}
-use borrow.Author.Rules.{rules}
 use Rattle.ssi.proofs.level.Goals as goal
 
 pub returns : goal.returns

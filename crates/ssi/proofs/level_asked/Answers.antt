@@ -1,5 +1,4 @@
 -- `ssi::level_asked` meets its contract: each arm is one answer to whether the error is asked for.
-use borrow.Author.Rules.{rules}
 use Rattle.ssi.proofs.level_asked.Goals as goal
 
 pub returns : goal.returns

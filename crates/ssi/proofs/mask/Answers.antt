@@ -1,6 +1,5 @@
 -- `ssi::mask` meets its contract: of 32 ones, `32 - width` are shifted out.
 use Rattle.ssi.specs.FieldLaws.{mask_is}
-use borrow.Author.Rules.{rules}
 use Rattle.ssi.proofs.mask.Goals as goal
 
 pub returns : goal.returns

@@ -1,6 +1,5 @@
 -- `ssi::telegram` meets its contract: the coded position fits its place, and the error bit stands beside it.
 use Rattle.ssi.proofs.Arms.{unmarked-is, marked-is}
-use borrow.Author.Rules.{rules}
 use Rattle.ssi.proofs.telegram.Goals as goal
 
 pub returns-then-l-eq0 : goal.returns-then-l-eq0

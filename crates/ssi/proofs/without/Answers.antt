@@ -1,6 +1,5 @@
 -- `ssi::without` meets its contract: with all bits but one kept, the number loses what that bit is worth.
 use Rattle.ssi.proofs.Arms.{without-none, without_is}
-use borrow.Author.Rules.{rules}
 use Rattle.ssi.proofs.without.Goals as goal
 
 pub returns-then-n-eq0 : goal.returns-then-n-eq0
