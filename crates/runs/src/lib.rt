@@ -23,6 +23,7 @@ pub fn event_of(w: u64) -> Event
 }
 
 // The answer to the last of a list of events, from the answer before them.
+// Kept: the list is words and no events, as `events_in` of Words has it, which the clauses of `run` name.
 fn run_on(a: Answer, log: &[u64]) -> Answer
     requires { Good a.state }
     ensures is { result ≡ last_of a (answers_of a.state (events_in log.now)) }

@@ -156,8 +156,8 @@ told-most None = omega arith
 
 extremes-most : (x : Option LeastAndGreatest) → length (extremes_text x) ≤ room
 unfolding extremes_numbers extremes_text
-extremes-most None = omega arith
-extremes-most (Some x) = simp length-append (omega (arith, text-at-most-19 x.least, text-at-most-19 x.greatest))
+extremes-most None = simp length-append (omega (arith, text-at-most-19 (pos 0)))
+extremes-most (Some x) = simp length-append (omega (arith, text-at-most-19 (pos 1), text-at-most-19 x.least, text-at-most-19 x.greatest))
 
 plain-most : (s : Sheet) (c : Command) → length (plain_text s c) ≤ room
 unfolding plain_text start_text
