@@ -158,6 +158,7 @@ pub fn event_line(
 }
 
 // Puts a load's number and slot, and ends the line.
+// Kept: the parameters take any number and slot, also those of a start (`answers::put_start`); a `Refusal` would ask more of callers.
 pub fn put_refusal(out: &mut [u8], at: usize, refusal: u32, slot: usize) -> usize
     requires { (at + 40 ≤ length out.old) × (slot ≤ largest) }
     ensures { Put out.old at (refusal_fields refusal slot) result out.new }

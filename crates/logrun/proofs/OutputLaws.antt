@@ -1,5 +1,5 @@
 -- What the functions put for a whole input, in whatever pieces it comes, is what panelrun means: `output-in-pieces`.
-use Rattle.std.specs.Prelude.{◌≡◌, refl, Bool, true, false, List, [], ◌∷◌, ◌++◌, ℕ, ◌%◌, ◌<◌, eqb, length}
+use Rattle.std.specs.Prelude.{◌≡◌, refl, Option, Some, None, is_none, Bool, true, false, List, [], ◌∷◌, ◌++◌, ℕ, ◌%◌, ◌<◌, eqb, length}
 use Rattle.std.proofs.Common.{sym, ap, ◌∙◌, append_assoc, append-nil, inl, inr, arith, take_at, drop_at, take_all}
 use borrow.Author.Tests.{eq-eqb, ne_eqb}
 use Rattle.events.specs.declared.Pending.{Pending}
@@ -10,6 +10,7 @@ use Rattle.events.specs.Log.{taken_of, end_of, Log, before, log_from}
 use Rattle.events.proofs.LogLaws.{log-word, log-end, log-start}
 use Rattle.events.proofs.WordLaws.{Reason, word-reason}
 use Rattle.lines.specs.Lines.{header_line, event_line, next_count, end_line}
+use Rattle.parameters.specs.declared.Refusal.{Refusal}
 use Rattle.panel.specs.declared.Loaded.{Loaded}
 use Rattle.state.specs.declared.State.{State}
 use Rattle.panel.specs.Load.{loaded_of}
@@ -123,14 +124,19 @@ table-first table log h = rw (take_at table log table_bytes h, take_all table_by
 log-behind : (table log : List ℕ) → length table ≡ table_bytes → log_bytes (table ++ log) ≡ log
 log-behind table log h = drop_at table log table_bytes h
 
-opening-loaded : (l : Loaded) → l.refusal ≡ 0 → opening_text l ≡ header_line
+-- a refusal that is not none is one
+no-none : (r : Option Refusal) → (r ≡ None → ⊥) → is_none r ≡ false
+no-none None n = absurd (n refl)
+no-none (Some r) n = refl
+
+opening-loaded : (l : Loaded) → l.refusal ≡ None → opening_text l ≡ header_line
 unfolding opening_text
-opening-loaded l h = rw (eq-eqb l.refusal 0 h)
+opening-loaded l h = rw h
 
 -- ---- THE LAW of panelrun: the table's 416 bytes, and the log in pieces as it is read into a room of whole words. Where the table loads, the header
 -- and what the pieces print are the output; where it is refused, the load line is
 module _ (table : List ℕ) (long : length table ≡ table_bytes) (full : ℕ) (words : full % 4 ≡ 0) (pieces : List (List ℕ)) (read : AsRead full pieces) where
-  pub output-in-pieces : (loaded_of (table_of table)).refusal ≡ 0
+  pub output-in-pieces : (loaded_of (table_of table)).refusal ≡ None
       → opening_text (loaded_of (table_of table)) ++ pieces_text full (start_of (loaded_of (table_of table)).state) pieces ≡ output_of (table ++ together pieces)
   unfolding output_of run_text
   output-in-pieces loads =
@@ -141,13 +147,13 @@ module _ (table : List ℕ) (long : length table ≡ table_bytes) (full : ℕ) (
         run-log s (together pieces),
         table-first table (together pieces) long,
         log-behind table (together pieces) long,
-        eq-eqb _ 0 loads,
+        loads,
       )
       (sym (append_assoc header_line (lines_of 0 s (log_of_bytes (together pieces)).events) (end_line (log_of_bytes (together pieces)).refusal)))
 
-  pub output-refused : ((loaded_of (table_of table)).refusal ≡ 0 → ⊥) → opening_text (loaded_of (table_of table)) ≡ output_of (table ++ together pieces)
+  pub output-refused : ((loaded_of (table_of table)).refusal ≡ None → ⊥) → opening_text (loaded_of (table_of table)) ≡ output_of (table ++ together pieces)
   unfolding output_of opening_text
-  output-refused n = rw (table-first table (together pieces) long, ne_eqb _ 0 n)
+  output-refused n = rw (table-first table (together pieces) long, no-none (loaded_of (table_of table)).refusal n)
 
 -- an input that is shorter than a table
 pub output-short : (input : List ℕ) → length input < table_bytes → opening_text (loaded_of (table_of input)) ≡ output_of input

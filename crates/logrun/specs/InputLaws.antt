@@ -1,10 +1,11 @@
 -- An input of fewer than 416 bytes has fewer than 104 table words, and is refused with 1.
-use Rattle.std.specs.Prelude.{◌≡◌, List, [], ◌∷◌, map, ℕ, ◌*◌, ◌≤◌, ◌<◌, ℤ, length, take}
+use Rattle.std.specs.Prelude.{◌≡◌, Some, List, [], ◌∷◌, map, ℕ, ◌*◌, ◌≤◌, ◌<◌, ℤ, length, take}
 use Rattle.std.proofs.Common.{sym, ◌∙◌, arith, take_all}
 use Rattle.std.proofs.lemmas.List.{length-map}
 use Rattle.integers.specs.TwosComplement.{signed_of}
 use Rattle.events.specs.Bytes.{words_in}
 use Rattle.parameters.proofs.LoadLaws.{load-length}
+use Rattle.parameters.specs.declared.Refusal.TheVariants.{Length}
 use Rattle.parameters.specs.Rows.{default_table}
 use Rattle.panel.specs.declared.Loaded.{Loaded}
 use Rattle.panel.specs.Load.{loaded_of}
@@ -22,7 +23,7 @@ words-length (a ∷ (b ∷ (c ∷ (d ∷ bytes)))) = omega (arith, words-length 
 
 -- what a load answers to any other number of words than 104
 abbrev pub no_table : Loaded
-no_table = record { refusal = 1; slot = 0; state = fresh_of default_table }
+no_table = record { refusal = Some Length; state = fresh_of default_table }
 
 pub not-104-words : (t : List ℤ) → (length t ≡ 104 → ⊥) → loaded_of t ≡ no_table
 unfolding loaded_of

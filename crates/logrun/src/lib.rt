@@ -2,7 +2,7 @@
 // Uses `integers` for signed words, `events` for the log's words, `panel` for the steps on the values of `state`, and `lines` for what is printed.
 #![tactic(auto)]
 
-ghost use Rattle.std.specs.Prelude.{◌≡◌, ◌+◌, ◌*◌, ◌≤◌, eqb, length};
+ghost use Rattle.std.specs.Prelude.{◌≡◌, ◌+◌, ◌*◌, ◌≤◌, is_none, length};
 ghost use Rattle.events.specs.declared.Taken.TheVariants.{Happened};
 ghost use Rattle.events.specs.Bytes.{words_in};
 ghost use Rattle.lines.specs.Lines.{end_line};
@@ -139,7 +139,7 @@ pub fn start(s: State) -> Progress
 pub fn open(bytes: &[u8], out: &mut [u8]) -> Opened
     requires { longest ≤ length out.old }
     ensures is { result.progress ≡ start_of (loaded_of (table_of bytes.now)).state }
-    ensures loads { result.loaded ≡ eqb (loaded_of (table_of bytes.now)).refusal 0 }
+    ensures loads { result.loaded ≡ is_none (loaded_of (table_of bytes.now)).refusal }
     ensures text { Put out.old 0 (opening_text (loaded_of (table_of bytes.now))) result.end out.new }
     ensures ready { Ready result.progress }
     ensures within { result.end ≤ length out.new }
@@ -147,19 +147,23 @@ pub fn open(bytes: &[u8], out: &mut [u8]) -> Opened
     let l = load(bytes);
     let s = l.state;
     let p = start(s);
-    if l.refusal == 0 {
-        let end = lines::header_line(out, 0);
-        return Opened {
-            progress: p,
-            loaded: true,
-            end: end,
-        };
-    }
-    let end = lines::load_line(out, 0, l.refusal, l.slot);
-    Opened {
-        progress: p,
-        loaded: false,
-        end: end,
+    match l.refusal {
+        None => {
+            let end = lines::header_line(out, 0);
+            Opened {
+                progress: p,
+                loaded: true,
+                end,
+            }
+        }
+        Some(refusal) => {
+            let end = lines::load_line(out, 0, refusal.number(), refusal.slot());
+            Opened {
+                progress: p,
+                loaded: false,
+                end,
+            }
+        }
     }
 }
 

@@ -224,10 +224,8 @@ pub fn step(s: State, e: Event) -> Answer
 // What loading a table answers.
 #[derive(Clone, Copy)]
 pub struct Loaded {
-    // 0, or the number of the check that refuses the table.
-    pub refusal: u32,
-    // The slot that check 2 names, else 0.
-    pub slot: usize,
+    // Why the table is refused, none where it loads.
+    pub refusal: Option<parameters::Refusal>,
     // The fresh state of the table, or of the defaults where it is refused.
     pub state: State,
 }
@@ -242,7 +240,6 @@ pub fn load(words: &[i32]) -> Loaded
     let s = state::fresh(table);
     Loaded {
         refusal: l.refusal,
-        slot: l.slot,
         state: s,
     }
 }

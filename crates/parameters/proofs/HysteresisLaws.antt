@@ -1,5 +1,5 @@
 -- Hysteresis comes as 2 for all four preselections, and stored tables keep what they hold: one with hysteresis 0 loads as it is. Paper 02, K1.
-use Rattle.std.specs.Prelude.{◌≡◌, refl, true, ◌&&◌, List, ℕ, ◌+◌, ◌*◌, ◌<◌, ◌≤◌, ℤ, pos}
+use Rattle.std.specs.Prelude.{◌≡◌, refl, None, true, ◌&&◌, List, ℕ, ◌+◌, ◌*◌, ◌<◌, ◌≤◌, ℤ, pos}
 use Rattle.std.proofs.Common.{arith, ne_eqb}
 use Rattle.std.specs.Int.Signed.{le_z}
 use Rattle.parameters.specs.Rows.{row_of, row_at, in_range, defaults_from, default_table}
@@ -36,13 +36,13 @@ valid-hysteresis v k h b l =
 
 -- a table that loads, with any hysteresis from 0 to 9,999 in place of its own, loads as it is
 pub hysteresis-kept : (t : List ℤ) → load_refusal t ≡ 0 → (k h : ℕ) → k < 4 → h ≤ 9999 →
-    load_of (with_hysteresis t k h) ≡ record { refusal = 0; slot = 0; table = with_hysteresis t k h }
+    load_of (with_hysteresis t k h) ≡ record { refusal = None; table = with_hysteresis t k h }
 unfolding load_of
 hysteresis-kept t e k h b l = rw (valid-loads (valid-hysteresis (loads t e) k h b l))
 
 -- so a stored 0 is not refused, and stays 0
 pub zero-kept : (t : List ℤ) → load_refusal t ≡ 0 → (k : ℕ) → k < 4 →
-    ((load_of (with_hysteresis t k 0)).refusal ≡ 0) × (hysteresis (load_of (with_hysteresis t k 0)).table k ≡ 0)
+    ((load_of (with_hysteresis t k 0)).refusal ≡ None) × (hysteresis (load_of (with_hysteresis t k 0)).table k ≡ 0)
 zero-kept t e k b =
     let kept = hysteresis-kept t e k 0 b (omega arith) in
     (rw kept, rw (kept, word-stored t (19 + 8 * k) (pos 0) (omega (arith, (loads t e).long))))

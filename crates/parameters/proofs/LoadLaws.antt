@@ -1,6 +1,6 @@
 -- A load's number is the first condition's: each number is returned in its own condition and in no other. The defaults load.
 -- Paper 01, "Where each check sits", load.
-use Rattle.std.specs.Prelude.{◌≡◌, refl, Bool, true, false, not, ◌&&◌, ◌||◌, cond, List, ℕ, suc, ◌-◌, ◌<◌, ◌≤◌, eqb, ℤ, pos, negsuc, length, get_or}
+use Rattle.std.specs.Prelude.{◌≡◌, refl, Option, Some, None, is_some, zero, ◌+◌, [], ◌∷◌, Bool, true, false, not, ◌&&◌, ◌||◌, cond, List, ℕ, suc, ◌-◌, ◌<◌, ◌≤◌, eqb, ℤ, pos, negsuc, length, get_or}
 use Rattle.std.proofs.Common.{lit<, sym, ◌∙◌, ap, arith}
 use mir.Syntax.{w32}
 use mir.Val.{SFits, of_z}
@@ -12,6 +12,9 @@ use Rattle.parameters.specs.Slots.{word_at}
 use Rattle.integers.specs.Choice.{some}
 use Rattle.parameters.specs.Search.{first_of}
 use Rattle.parameters.specs.SearchLaws.{first-least, first-own, first-only, first-none, none_first}
+use Rattle.std.proofs.lemmas.Option.{none-some}
+use Rattle.parameters.specs.declared.Refusal.{Refusal}
+use Rattle.parameters.specs.Refusals.{number_told, slot_told, refusal_by}
 use Rattle.parameters.specs.Load.{same_z, words_missing, slot_out, field_wrong, error_bit_wrong, span_empty, not_above, points_not_rising, origin_missing, frozen_by_edge, freeze_on_edge, differ, differs_from, polarities_differ, conflicts, conditions, condition, load_refusal, load_slot, refused_with, load_of}
 
 -- the test of two whole numbers tells whether they are equal
@@ -67,7 +70,7 @@ module _ (t : List ℤ) where
   load-conflict e h n =
       rw (passed e h, ne_eqb (first_of 3 (conflicts t)) 0 n, ne_eqb (first_of 3 (conflicts t)) 2 (λ q. omega (arith, first-least 3 (conflicts t) n)))
 
-  pub load-fine : length t ≡ 104 → 104 ≤ lowest_out t → first_of 3 (conflicts t) ≡ 0 → load_of t ≡ record { refusal = 0; slot = 0; table = t }
+  pub load-fine : length t ≡ 104 → 104 ≤ lowest_out t → first_of 3 (conflicts t) ≡ 0 → load_of t ≡ record { refusal = None; table = t }
   unfolding load_of
   load-fine e h z = rw (passed e h, z)
 
@@ -115,22 +118,92 @@ slot-named t e =
     let low : lowest_out t < 104 = ltb-true (lowest_out t) 104 r.own in
     rw e (record { out = at-lowest t (omega arith); lowest = λ k h. below-lowest t k h (omega arith) })
 
+-- the number is at most 9
+first_most : (n : ℕ) (bs : List Bool) → 1 ≤ n → first_of n bs < n + length bs
+unfolding first_of
+first_most n [] l = omega arith
+first_most n (true ∷ bs) l = omega arith
+first_most n (false ∷ bs) l = omega (arith, first_most (suc n) bs (omega arith))
+
+number_most : (t : List ℤ) → load_refusal t ≤ 9
+unfolding load_refusal conditions conflicts
+number_most t = omega (arith, first_most 1 (conditions t) (omega arith))
+
+-- the refusal of a number has that number, and names its slot where it is 2
+number-by : (n slot : ℕ) → n ≤ 9 → number_told (refusal_by n slot) ≡ n
+number-by zero slot h = refl
+number-by (suc zero) slot h = refl
+number-by (suc (suc zero)) slot h = refl
+number-by (suc (suc (suc zero))) slot h = refl
+number-by (suc (suc (suc (suc zero)))) slot h = refl
+number-by (suc (suc (suc (suc (suc zero))))) slot h = refl
+number-by (suc (suc (suc (suc (suc (suc zero)))))) slot h = refl
+number-by (suc (suc (suc (suc (suc (suc (suc zero))))))) slot h = refl
+number-by (suc (suc (suc (suc (suc (suc (suc (suc zero)))))))) slot h = refl
+number-by (suc (suc (suc (suc (suc (suc (suc (suc (suc zero))))))))) slot h = refl
+number-by (suc (suc (suc (suc (suc (suc (suc (suc (suc (suc n)))))))))) slot h = absurd (omega arith)
+
+slot-by : (n slot : ℕ) → n ≤ 9 → slot_told (refusal_by n slot) ≡ cond (eqb n 2) slot 0
+slot-by zero slot h = refl
+slot-by (suc zero) slot h = refl
+slot-by (suc (suc zero)) slot h = refl
+slot-by (suc (suc (suc zero))) slot h = refl
+slot-by (suc (suc (suc (suc zero)))) slot h = refl
+slot-by (suc (suc (suc (suc (suc zero))))) slot h = refl
+slot-by (suc (suc (suc (suc (suc (suc zero)))))) slot h = refl
+slot-by (suc (suc (suc (suc (suc (suc (suc zero))))))) slot h = refl
+slot-by (suc (suc (suc (suc (suc (suc (suc (suc zero)))))))) slot h = refl
+slot-by (suc (suc (suc (suc (suc (suc (suc (suc (suc zero))))))))) slot h = refl
+slot-by (suc (suc (suc (suc (suc (suc (suc (suc (suc (suc n)))))))))) slot h = absurd (omega arith)
+
+-- a conflict has a number, and no conflict has none
+conflict_most : (t : List ℤ) → first_of 3 (conflicts t) ≤ 9
+unfolding conflicts
+conflict_most t = omega (arith, first_most 3 (conflicts t) (omega arith))
+
+pub some-conflict : (t : List ℤ) (r : Refusal) → refusal_by (first_of 3 (conflicts t)) 0 ≡ Some r → first_of 3 (conflicts t) ≡ 0 → ⊥
+some-conflict t r is none = none-some r (rw none at is)
+
+pub no-conflict : (t : List ℤ) → refusal_by (first_of 3 (conflicts t)) 0 ≡ None → first_of 3 (conflicts t) ≡ 0
+no-conflict t is = sym (number-by (first_of 3 (conflicts t)) 0 (conflict_most t)) ∙ ap number_told is
+
 -- the answer has this number and this slot, and the table where it loads
-pub answer-number : (t : List ℤ) → (load_of t).refusal ≡ load_refusal t
+pub answer-number : (t : List ℤ) → number_told (load_of t).refusal ≡ load_refusal t
 unfolding load_of
 answer-number t = go (eqb (load_refusal t) 0) refl
   where
-    go : (b : Bool) → eqb (load_refusal t) 0 ≡ b → (cond b (record { refusal = 0; slot = 0; table = t }) (refused_with (load_refusal t) (load_slot t))).refusal ≡ load_refusal t
+    go : (b : Bool) → eqb (load_refusal t) 0 ≡ b → number_told (cond b (record { refusal = None; table = t }) (refused_with (load_refusal t) (load_slot t))).refusal ≡ load_refusal t
     go true e = sym (eqb-true (load_refusal t) 0 e)
-    go false e = refl
+    go false e = number-by (load_refusal t) (load_slot t) (number_most t)
 
-pub answer-slot : (t : List ℤ) → (load_of t).slot ≡ load_slot t
+pub answer-slot : (t : List ℤ) → slot_told (load_of t).refusal ≡ load_slot t
 unfolding load_of load_slot
 answer-slot t = go (eqb (load_refusal t) 0) refl
   where
-    go : (b : Bool) → eqb (load_refusal t) 0 ≡ b → (cond b (record { refusal = 0; slot = 0; table = t }) (refused_with (load_refusal t) (load_slot t))).slot ≡ load_slot t
+    by : (b : Bool) → cond b (cond b (lowest_out t) 0) 0 ≡ cond b (lowest_out t) 0
+    by true = refl
+    by false = refl
+
+    go : (b : Bool) → eqb (load_refusal t) 0 ≡ b → slot_told (cond b (record { refusal = None; table = t }) (refused_with (load_refusal t) (cond (eqb (load_refusal t) 2) (lowest_out t) 0))).refusal ≡ cond (eqb (load_refusal t) 2) (lowest_out t) 0
     go true e = rw (eqb-true (load_refusal t) 0 e)
-    go false e = refl
+    go false e = slot-by (load_refusal t) _ (number_most t) ∙ by (eqb (load_refusal t) 2)
+
+-- a test for a value, as it is said of an option
+pub none-of : {A : Type 0} (o : Option A) → is_some o ≡ false → o ≡ None
+none-of None e = refl
+none-of (Some a) e = let z : ◌≡◌ {A = ℕ} 0 1 = cc in absurd (omega arith)
+
+pub not-none : {A : Type 0} (o : Option A) → is_some o ≡ true → o ≡ None → ⊥
+not-none None e n = let z : ◌≡◌ {A = ℕ} 0 1 = cc in omega arith
+not-none (Some a) e n = none-some a (sym n)
+
+-- it has no refusal exactly where the table loads
+pub answer-none : (t : List ℤ) → load_refusal t ≡ 0 → (load_of t).refusal ≡ None
+unfolding load_of
+answer-none t e = rw e
+
+pub none-answered : (t : List ℤ) → (load_of t).refusal ≡ None → load_refusal t ≡ 0
+none-answered t e = sym (answer-number t) ∙ ap number_told e
 
 pub answer-table : (t : List ℤ) → load_refusal t ≡ 0 → (load_of t).table ≡ t
 unfolding load_of
@@ -141,7 +214,7 @@ named_small : (t : List ℤ) → load_refusal t ≡ 2 → lowest_out t < 104
 unfolding condition conditions slot_out
 named_small t e = ltb-true (lowest_out t) 104 (number-only t 2 (omega arith) e).own
 
-pub slot_small : (t : List ℤ) → (load_of t).slot ≤ 104
+pub slot_small : (t : List ℤ) → slot_told (load_of t).refusal ≤ 104
 unfolding load_slot
 slot_small t = rw (answer-slot t) (by (eqb (load_refusal t) 2) refl)
   where

@@ -1,5 +1,5 @@
 -- Exactly the valid tables load, and whatever load answers, its table is valid.
-use Rattle.std.specs.Prelude.{◌≡◌, refl, Bool, true, false, cond, List, ℕ, ◌<◌, ◌≤◌, eqb, ltb, ℤ, length}
+use Rattle.std.specs.Prelude.{◌≡◌, refl, None, Bool, true, false, cond, List, ℕ, ◌<◌, ◌≤◌, eqb, ltb, ℤ, length}
 use Rattle.std.proofs.Common.{arith, eqb-true, eq-eqb, ltb-true, ltb-false}
 use Rattle.std.proofs.lemmas.Bool.{not-false}
 use Rattle.parameters.specs.Rows.{lowest_out, default_table}
@@ -59,6 +59,6 @@ pub load-valid : (t : List ℤ) → Valid (load_of t).table
 unfolding load_of
 load-valid t = go (eqb (load_refusal t) 0) refl
   where
-    go : (b : Bool) → eqb (load_refusal t) 0 ≡ b → Valid (cond b (record { refusal = 0; slot = 0; table = t }) (refused_with (load_refusal t) (load_slot t))).table
+    go : (b : Bool) → eqb (load_refusal t) 0 ≡ b → Valid (cond b (record { refusal = None; table = t }) (refused_with (load_refusal t) (load_slot t))).table
     go true e = loads t (eqb-true (load_refusal t) 0 e)
     go false e = defaults-valid

@@ -1,8 +1,10 @@
 -- A table is refused with the number of the first condition of 1 to 9 that it meets, and loads exactly when it meets none.
 -- Condenses paper 01, "Where each check sits", load.
-use Rattle.std.specs.Prelude.{Bool, false, not, ◌&&◌, ◌||◌, cond, List, [], ◌∷◌, ℕ, ◌+◌, ◌-◌, eqb, ltb, leb, ℤ, pos, negsuc, length, get_or}
+use Rattle.std.specs.Prelude.{Some, None, Bool, false, not, ◌&&◌, ◌||◌, cond, List, [], ◌∷◌, ℕ, ◌+◌, ◌-◌, eqb, ltb, leb, ℤ, pos, negsuc, length, get_or}
 use Rattle.std.specs.Int.Signed.{le_z}
 use Rattle.parameters.specs.declared.Loaded.{Loaded}
+use Rattle.parameters.specs.declared.Refusal.{Refusal}
+use Rattle.parameters.specs.Refusals.{refusal_by}
 use Rattle.parameters.specs.Rows.{lowest_out, default_table}
 use Rattle.parameters.specs.Slots.{resolution, high_bit, low_bit, error_bit, linearization, analog_start, analog_end, target, polarity, action, config, points_in_use, point_x, point_y}
 use Rattle.integers.specs.Choice.{some}
@@ -83,8 +85,11 @@ unfoldable pub load_slot : List ℤ → ℕ
 load_slot t = cond (eqb (load_refusal t) 2) (lowest_out t) 0
 
 -- what load answers: the table itself, or a refusal with the defaults as filler
+abbrev pub refused_as : Refusal → Loaded
+refused_as r = record { refusal = Some r; table = default_table }
+
 abbrev pub refused_with : ℕ → ℕ → Loaded
-refused_with n slot = record { refusal = n; slot = slot; table = default_table }
+refused_with n slot = record { refusal = refusal_by n slot; table = default_table }
 
 unfoldable pub load_of : List ℤ → Loaded
-load_of t = cond (eqb (load_refusal t) 0) (record { refusal = 0; slot = 0; table = t }) (refused_with (load_refusal t) (load_slot t))
+load_of t = cond (eqb (load_refusal t) 0) (record { refusal = None; table = t }) (refused_with (load_refusal t) (load_slot t))

@@ -2,9 +2,10 @@
 ghost use Rattle.std.specs.Prelude.{◌≡◌, ◌<◌};
 ghost use Rattle.integers.specs.Choice.{some};
 ghost use Rattle.parameters.specs.Search.{first_of};
+ghost use Rattle.parameters.specs.Refusals.{refusal_by};
 ghost use Rattle.parameters.specs.Load.{field_wrong, error_bit_wrong, span_empty, not_above, points_not_rising, origin_missing, frozen_by_edge, freeze_on_edge, differ, differs_from, polarities_differ, conflicts};
 
-use crate::{natural, slots, word};
+use crate::{Refusal, natural, slots, word};
 
 // 3: B > H or H > N.
 fn field_wrong(t: &[i32; 104]) -> bool
@@ -128,30 +129,30 @@ fn polarities_differ(t: &[i32; 104]) -> bool
     differs_from(t, 0) | differs_from(t, 1) | differs_from(t, 2) | differs_from(t, 3)
 }
 
-// The first of the checks 3 to 9 that fails, 0 where none does.
-pub fn conflict(t: &[i32; 104]) -> u32
-    ensures { result ≡ first_of 3 (conflicts t.now) }
+// The first of the checks 3 to 9 that fails.
+pub fn conflict(t: &[i32; 104]) -> Option<Refusal>
+    ensures { result ≡ refusal_by (first_of 3 (conflicts t.now)) 0 }
 {
     if field_wrong(t) {
-        return 3;
+        return Some(Refusal::Field);
     }
     if error_bit_wrong(t) {
-        return 4;
+        return Some(Refusal::ErrorBit);
     }
     if span_empty(t) {
-        return 5;
+        return Some(Refusal::Span);
     }
     if points_not_rising(t) {
-        return 6;
+        return Some(Refusal::Points);
     }
     if origin_missing(t) {
-        return 7;
+        return Some(Refusal::Origin);
     }
     if freeze_on_edge(t) {
-        return 8;
+        return Some(Refusal::Freeze);
     }
     if polarities_differ(t) {
-        return 9;
+        return Some(Refusal::Polarity);
     }
-    0
+    None
 }

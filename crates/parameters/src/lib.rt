@@ -2,10 +2,11 @@
 // It may use the crate `integers` only.
 #![tactic(auto)]
 
-ghost use Rattle.std.specs.Prelude.{◌≡◌, ◌<◌, length};
+ghost use Rattle.std.specs.Prelude.{◌≡◌, ◌<◌};
 ghost use Rattle.integers.specs.Int.{P};
 ghost use Rattle.parameters.specs.Slots.{word_at, nat_at, with_word, with_offset, with_preselection};
-ghost use Rattle.parameters.specs.Load.{refused_with, load_of};
+ghost use Rattle.parameters.specs.Refusals.{refusal_number, refusal_slot};
+ghost use Rattle.parameters.specs.Load.{refused_as, load_of};
 
 mod checks; // checks.rt: checks 3 to 9
 pub mod rows; // rows.rt: ranges and defaults, check 2
@@ -60,36 +61,74 @@ pub fn store_preselection(t: &mut [i32; 104], k: usize, x: i32)
     t[slots::PRESELECTION + slots::PRESELECTION_STRIDE * k] = x;
 }
 
+// Why a table is refused: the first of the checks 1 to 9 that fails.
+#[derive(Clone, Copy, PartialEq, Eq)]
+pub enum Refusal {
+    // 1: not 104 words.
+    Length,
+    // 2: the lowest slot out of range.
+    Slot(usize),
+    // 3: B > H or H > N.
+    Field,
+    // 4: the error bit is above N, or from B to H.
+    ErrorBit,
+    // 5: the analog start equals the end.
+    Span,
+    // 6: linearization is on, and the used x do not strictly rise.
+    Points,
+    // 7: one quadrant, and point 1 is not (0, 0).
+    Origin,
+    // 8: freeze with config 2 or 3.
+    Freeze,
+    // 9: two preselections on one output, polarities differ.
+    Polarity,
+}
+
+impl Refusal {
+    // The number of the check.
+    pub fn number(self) -> u32
+        ensures { result ≡ refusal_number self }
+    {
+        match self {
+            Refusal::Length => 1,
+            Refusal::Slot(_) => 2,
+            Refusal::Field => 3,
+            Refusal::ErrorBit => 4,
+            Refusal::Span => 5,
+            Refusal::Points => 6,
+            Refusal::Origin => 7,
+            Refusal::Freeze => 8,
+            Refusal::Polarity => 9,
+        }
+    }
+
+    // The slot that check 2 names, else 0.
+    pub fn slot(self) -> usize
+        ensures { result ≡ refusal_slot self }
+    {
+        match self {
+            Refusal::Slot(slot) => slot,
+            _ => 0,
+        }
+    }
+}
+
 // What loading answers.
 #[derive(Clone, Copy)]
 pub struct Loaded {
-    // 0, or the number of the check that refuses the table.
-    pub refusal: u32,
-    // The slot that check 2 names, else 0.
-    pub slot: usize,
+    // Why the table is refused, none where it loads.
+    pub refusal: Option<Refusal>,
     // The table, or the defaults where it is refused.
     pub table: [i32; 104],
 }
 
-// The 104 words lent, as an array.
-fn filled(words: &[i32]) -> [i32; 104]
-    requires { length words.now ≡ 104 }
-    ensures { result ≡ words.now }
-{
-    let mut t = [0i32; 104];
-    t.copy_from_slice(words);
-    t
-}
-
 // A refusal, with the defaults as filler.
-fn refused(refusal: u32, slot: usize) -> Loaded
-    ensures { result ≡ refused_with refusal slot }
+fn refused(refusal: Refusal) -> Loaded
+    ensures { result ≡ refused_as refusal }
 {
-    let table = rows::defaults();
     Loaded {
-        refusal,
-        slot,
-        table,
+        refusal: Some(refusal),
+        table: rows::defaults(),
     }
 }
 
@@ -97,20 +136,17 @@ fn refused(refusal: u32, slot: usize) -> Loaded
 pub fn load(words: &[i32]) -> Loaded
     ensures { result ≡ load_of words.now }
 {
-    if words.len() != 104 {
-        return refused(1, 0);
+    let Ok(table) = <[i32; 104]>::try_from(words) else {
+        return refused(Refusal::Length);
+    };
+    if let Some(slot) = rows::lowest_out(&table) {
+        return refused(Refusal::Slot(slot));
     }
-    let t = filled(words);
-    if let Some(slot) = rows::lowest_out(&t) {
-        return refused(2, slot);
-    }
-    let n = checks::conflict(&t);
-    if n != 0 {
-        return refused(n, 0);
+    if let Some(refusal) = checks::conflict(&table) {
+        return refused(refusal);
     }
     Loaded {
-        refusal: 0,
-        slot: 0,
-        table: t,
+        refusal: None,
+        table,
     }
 }

@@ -1,6 +1,6 @@
 -- DEMAND 3 OF WHAT IS PRINTED, proved: line by line, the output's events step the panel as the run does; so what `runs` proves of every list of events holds of the
 -- events of the log that was read.
-use Rattle.std.specs.Prelude.{◌≡◌, refl, List, [], ◌∷◌, ◌++◌, ℕ, ◌+◌, ◌≤◌, ◌<◌, ℤ, length}
+use Rattle.std.specs.Prelude.{◌≡◌, refl, None, List, [], ◌∷◌, ◌++◌, ℕ, ◌+◌, ◌≤◌, ◌<◌, ℤ, length}
 use Rattle.std.proofs.Math.Path.{ap}
 use Rattle.std.proofs.Common.{◌∙◌, arith, lt-ltb, eq-eqb}
 use Rattle.state.specs.declared.State.{State}
@@ -14,7 +14,7 @@ use Rattle.panel.specs.declared.Answer.{Answer}
 use Rattle.panel.specs.Load.{loaded_of}
 use Rattle.panel.specs.Step.{step_of}
 use Rattle.parameters.specs.Load.{load_refusal}
-use Rattle.parameters.proofs.LoadLaws.{answer-number, answer-table}
+use Rattle.parameters.proofs.LoadLaws.{answer-none, answer-table}
 use Rattle.runs.proofs.Demand3Laws.{demand3}
 use Rattle.runs.specs.Run.{answers_of}
 use Rattle.printed_runs.specs.Printed.{log_in, answers_in, answer_lines, numbered_lines, PrintedRun, Demanded}
@@ -38,9 +38,9 @@ numbered-lines count (e ∷ es) (a ∷ answers) h = rw (next_count-next count (o
 
 -- a table that loads
 module _ (t : List ℤ) (loads : load_refusal t ≡ 0) where
-  loaded-number : (loaded_of t).refusal ≡ 0
+  loaded-number : (loaded_of t).refusal ≡ None
   unfolding loaded_of
-  loaded-number = answer-number t ∙ loads
+  loaded-number = answer-none t loads
 
   loaded-fresh : (loaded_of t).state ≡ fresh_of t
   unfolding loaded_of
@@ -51,7 +51,7 @@ unfolding output_of run_text
 demanded input loads =
     record {
       printed =
-          rw (eq-eqb _ 0 (loaded-number (table_of input) loads), loaded-fresh (table_of input) loads, lines-of-answers 0 (fresh_of (table_of input)) (log_in input).events);
+          rw (loaded-number (table_of input) loads, loaded-fresh (table_of input) loads, lines-of-answers 0 (fresh_of (table_of input)) (log_in input).events);
       numbered = λ h. numbered-lines 0 (log_in input).events (answers_in input) (omega (arith, h));
       demand = demand3 (table_of input) loads (log_in input).events;
     }

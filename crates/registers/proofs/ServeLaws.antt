@@ -1,5 +1,5 @@
 -- What holds of every frame, node and state; then what a master's reads and writes give. Request K2.
-use Rattle.std.specs.Prelude.{◌≡◌, refl, Bool, true, false, cond, Option, None, Some, List, [], ℕ, ◌*◌, ◌/◌, ◌%◌, ◌^◌, ◌≤◌, ◌<◌, eqb, ℤ, pos, get_or, set}
+use Rattle.std.specs.Prelude.{◌≡◌, refl, Bool, true, false, cond, Option, None, Some, List, [], ℕ, ◌*◌, ◌/◌, ◌%◌, ◌^◌, ◌≤◌, ◌<◌, eqb, ℤ, pos, get_or, set, is_some}
 use Rattle.std.proofs.Math.Path.{sym}
 use Rattle.std.proofs.Common.{subst, ap, ◌∙◌, length-set}
 use native.Mathlib.Omega.{arith}
@@ -27,8 +27,9 @@ use Rattle.modbus.specs.Crc.{sealed}
 use Rattle.modbus.specs.Replies.{read_frame, write_frame, read_reply, write_reply, exception_reply, longest_reply, packed}
 use Rattle.panel.specs.declared.Loaded.{Loaded}
 use Rattle.panel.specs.Load.{loaded_of}
+use Rattle.parameters.specs.Refusals.{number_told}
 use Rattle.parameters.specs.Load.{load_refusal}
-use Rattle.parameters.proofs.LoadLaws.{answer-number}
+use Rattle.parameters.proofs.LoadLaws.{answer-number, answer-none, none-of, not-none}
 use Rattle.parameters.specs.Slots.{word_at, offset_slot, preselection_slot}
 use Rattle.parameters.proofs.StoreLaws.{word-stored, offset-stored, preselection-stored}
 use Rattle.parameters.specs.Valid.{Valid}
@@ -229,14 +230,18 @@ started node t l due register =
     record { state = state_of t l.state.live; reply = sent due (packed (write_reply node register)); refusal = None; afresh = true }
 
 module _ (node : ℕ) (s : State) (due : Bool) (register : ℕ) (z : ℤ) (t : List ℤ) (l : Loaded) (e : t ≡ written_table s register z) (k : l ≡ loaded_of t) where
-  number-of-load : l.refusal ≡ load_refusal (written_table s register z)
+  number-of-load : number_told l.refusal ≡ load_refusal (written_table s register z)
   unfolding loaded_of
   number-of-load = rw (k, e) (answer-number (written_table s register z))
 
-  pub refused-write : (l.refusal ≡ 0 → ⊥) → unchanged s (sent due (packed (exception_reply node write_function (exception_code Value)))) None ≡ written_of node s due register z
-  unfolding written_of
-  refused-write n = rw (ne_eqb (load_refusal (written_table s register z)) 0 (λ q. n (number-of-load ∙ q)))
+  none-of-load : load_refusal (written_table s register z) ≡ 0 → l.refusal ≡ None
+  unfolding loaded_of
+  none-of-load n = rw (k, e) (answer-none (written_table s register z) n)
 
-  pub write_done : l.refusal ≡ 0 → started node t l due register ≡ written_of node s due register z
+  pub refused-write : is_some l.refusal ≡ true → unchanged s (sent due (packed (exception_reply node write_function (exception_code Value)))) None ≡ written_of node s due register z
+  unfolding written_of
+  refused-write n = rw (ne_eqb (load_refusal (written_table s register z)) 0 (λ q. not-none l.refusal n (none-of-load q)))
+
+  pub write_done : is_some l.refusal ≡ false → started node t l due register ≡ written_of node s due register z
   unfolding written_of loaded_of fresh_of
-  write_done n = rw (eq-eqb (load_refusal (written_table s register z)) 0 (sym number-of-load ∙ n), k, e)
+  write_done n = rw (eq-eqb (load_refusal (written_table s register z)) 0 (sym number-of-load ∙ ap number_told (none-of l.refusal n)), k, e)

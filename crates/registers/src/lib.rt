@@ -8,18 +8,57 @@ ghost use Rattle.state.specs.Valid.{Good};
 ghost use Rattle.modbus.specs.Replies.{packed, longest_reply};
 ghost use Rattle.modbus.specs.Request.{frame_number};
 ghost use Rattle.parameters.specs.Valid.{Valid};
-ghost use Rattle.registers.specs.Start.{is_node, started_of};
+ghost use Rattle.registers.specs.Start.{is_node, start_number, start_slot, started_of};
 ghost use Rattle.registers.specs.Serve.{word_in, sent, unchanged_by, written_of, request_of, served_of, served_by};
 
 use modbus::replies::Reply;
-use modbus::{Demand, Exception, Refusal, Request, replies};
-use panel::Loaded;
-use state::Live;
+use modbus::{Demand, Exception, Request, replies};
+use state::{Live, State};
 
 // The lowest and the highest node address.
 const LOWEST_NODE: u32 = 1;
 
 const HIGHEST_NODE: u32 = 247;
+
+// Why a panel does not start.
+#[derive(Clone, Copy, PartialEq, Eq)]
+pub enum StartRefusal {
+    // 33: no node address; tested before the load.
+    Node,
+    // A check of the load.
+    Table(parameters::Refusal),
+}
+
+impl StartRefusal {
+    // Its number.
+    pub fn number(self) -> u32
+        ensures { result ≡ start_number self }
+    {
+        match self {
+            StartRefusal::Node => 33,
+            StartRefusal::Table(refusal) => refusal.number(),
+        }
+    }
+
+    // The slot that check 2 of the load names, else 0.
+    pub fn slot(self) -> usize
+        ensures { result ≡ start_slot self }
+    {
+        match self {
+            StartRefusal::Node => 0,
+            StartRefusal::Table(refusal) => refusal.slot(),
+        }
+    }
+}
+
+// What a start answers.
+#[derive(Clone, Copy)]
+pub struct Started {
+    // Why nothing starts, none where the panel does.
+    pub refusal: Option<StartRefusal>,
+    // The fresh state of the table, or of the defaults where nothing starts.
+    pub state: State,
+}
 
 // What a frame leaves beside the table.
 #[derive(Clone, Copy)]
@@ -29,7 +68,7 @@ pub struct Response {
     // The reply's bytes, none where no reply is due.
     pub reply: Reply,
     // Why the frame was refused, if it was.
-    pub refusal: Option<Refusal>,
+    pub refusal: Option<modbus::Refusal>,
     // Whether a write was carried out, so that the panel started afresh.
     pub afresh: bool,
 }
@@ -55,18 +94,20 @@ fn is_node(node: u32) -> bool
 }
 
 // Starts a panel: 33 for another node address, then the load.
-pub fn start(node: u32, words: &[i32]) -> Loaded
+pub fn start(node: u32, words: &[i32]) -> Started
     ensures is { result ≡ started_of node words.now }
     ensures valid { Good result.state }
 {
     if is_node(node) {
-        return panel::load(words);
+        let l = panel::load(words);
+        return Started {
+            refusal: l.refusal.map(StartRefusal::Table),
+            state: l.state,
+        };
     }
-    let s = state::fresh(parameters::rows::defaults());
-    Loaded {
-        refusal: 33,
-        slot: 0,
-        state: s,
+    Started {
+        refusal: Some(StartRefusal::Node),
+        state: state::fresh(parameters::rows::defaults()),
     }
 }
 
@@ -94,7 +135,7 @@ fn send(due: bool, reply: Reply) -> Reply
 }
 
 // A frame that changes nothing.
-fn unchanged(l: Live, reply: Reply, refusal: Option<Refusal>) -> Response
+fn unchanged(l: Live, reply: Reply, refusal: Option<modbus::Refusal>) -> Response
     ensures { result ≡ unchanged_by l reply refusal }
 {
     Response {
@@ -112,7 +153,7 @@ fn write(node: u8, t: &mut [i32; 104], l: Live, due: bool, register: u16, z: i32
     let slot = usize::from(register / 2);
     let next = parameters::changed(*t, slot, z);
     let x = panel::load(&next);
-    if x.refusal != 0 {
+    if x.refusal.is_some() {
         return unchanged(
             l,
             send(
@@ -141,7 +182,7 @@ fn request(node: u8, t: &mut [i32; 104], l: Live, d: Demand) -> Response
     let due = d.reply;
     let asked = d.request;
     match asked {
-        Request::Broken => unchanged(l, replies::no_reply(), Some(Refusal::BrokenFrame)),
+        Request::Broken => unchanged(l, replies::no_reply(), Some(modbus::Refusal::BrokenFrame)),
         Request::Ignored => unchanged(l, replies::no_reply(), None),
         Request::Exception(function, exception) => {
             unchanged(

@@ -40,10 +40,8 @@ fn run_on(a: Answer, log: &[u64]) -> Answer
 // What a run answers.
 #[derive(Clone, Copy)]
 pub struct Ran {
-    // 0, or the number of the check that refuses the table.
-    pub refusal: u32,
-    // The slot that check 2 names, else 0.
-    pub slot: usize,
+    // Why the table is refused, none where it loads.
+    pub refusal: Option<parameters::Refusal>,
     // The answer to the last event; what the fresh state answers where there is none, of the defaults where the table is refused.
     pub answer: Answer,
 }
@@ -56,17 +54,15 @@ pub fn run(table: &[i32], log: &[u64]) -> Ran
     let l = panel::load(table);
     let s = l.state;
     let first = panel::answered(s, None, reading::no_halves());
-    if l.refusal != 0 {
+    if l.refusal.is_some() {
         return Ran {
             refusal: l.refusal,
-            slot: l.slot,
             answer: first,
         };
     }
     let last = run_on(first, log);
     Ran {
-        refusal: 0,
-        slot: 0,
+        refusal: None,
         answer: last,
     }
 }

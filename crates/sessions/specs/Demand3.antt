@@ -2,7 +2,7 @@
 -- the events since the last write carried out, the telegrams taken of a burst among them, from the fresh state of the table then in force, and demand 3 holds of
 -- that run. Starting afresh is no event and no change of a condition: the run begins with no event, and its conditions are off at first.
 -- Requests K2 and K5. This file is definitions only; `demanded` of Demand3Laws proves it.
-use Rattle.std.specs.Prelude.{◌≡◌, List, ℕ, ℤ}
+use Rattle.std.specs.Prelude.{◌≡◌, None, List, ℕ, ℤ}
 use Rattle.state.specs.State.{fresh_of}
 use Rattle.parameters.specs.Load.{load_refusal}
 use Rattle.registers.specs.Start.{started_of}
@@ -29,4 +29,4 @@ pub record Started (node : ℕ) (t : List ℤ) : Type 0 where
   pub sessions : (xs : List Entry) → SessionDemand node t xs
 
 abbrev pub Demanded : Type 0
-Demanded = (node : ℕ) (t : List ℤ) → (started_of node t).refusal ≡ 0 → Started node t
+Demanded = (node : ℕ) (t : List ℤ) → (started_of node t).refusal ≡ None → Started node t

@@ -1,7 +1,7 @@
 -- THE MEANING OF A LINE of the gate's runs: what is kept after it (`after_line`), and what is printed for it (`line_text`).
 -- A run is a table, given by what differs from the defaults, and a log, given piece by piece; it prints what panelrun prints. The other lines ask what panelrun does not print.
 -- Main property (SheetLaws): what is printed fits into `room` bytes. Assumes nothing.
-use Rattle.std.specs.Prelude.{Bool, true, false, cond, Option, Some, None, List, [], ◌∷◌, ◌++◌, map, ℕ, ◌+◌, ◌*◌, ◌^◌, ◌-◌, eqb, ltb, ℤ, pos, length, take, Result, Ok, Err}
+use Rattle.std.specs.Prelude.{Bool, true, false, cond, Option, Some, None, List, [], ◌∷◌, ◌++◌, map, ℕ, ◌+◌, ◌*◌, ◌^◌, ◌-◌, eqb, ltb, ℤ, pos, length, take, Result, Ok, Err, is_none}
 use mir.Val.{bool_byte}
 use Rattle.text.specs.HexList.{hexes_of}
 use Rattle.state.specs.declared.Extremes.{Extremes as LeastAndGreatest}
@@ -75,7 +75,7 @@ abbrev pub loaded_by : Sheet → Loaded
 loaded_by s = loaded_of (table_of (take s.given (bytes_of (map bits_of s.table))))
 
 unfoldable pub after_start : Sheet → Sheet
-after_start s = with_run s (start_of (loaded_by s).state) (eqb (loaded_by s).refusal 0)
+after_start s = with_run s (start_of (loaded_by s).state) (is_none (loaded_by s).refusal)
 
 unfoldable pub start_text : Sheet → List ℕ
 start_text s = opening_text (loaded_by s)

@@ -1,5 +1,5 @@
 -- What holds of every line: what is printed fits into the room for it, and the run that is kept stays valid. And what the code makes of an event.
-use Rattle.std.specs.Prelude.{◌≡◌, refl, Bool, true, false, cond, Option, Some, None, List, [], map, ℕ, ◌+◌, ◌*◌, ◌≤◌, eqb, ltb, ℤ, pos, length, take, Result, Ok, Err}
+use Rattle.std.specs.Prelude.{◌≡◌, refl, Bool, true, false, cond, Option, Some, None, List, [], map, ℕ, ◌+◌, ◌*◌, ◌≤◌, eqb, ltb, ℤ, pos, length, take, Result, Ok, Err, is_none}
 use Rattle.std.proofs.Common.{arith, ltb-false, length-append}
 use mir.Val.{bool_byte}
 use Rattle.text.specs.HexList.{hexes_of}
@@ -24,6 +24,7 @@ use Rattle.logrun.specs.Pieces.{goes_on, last_line, piece_text}
 use Rattle.logrun.specs.Progress.{Ready, after_taken, text_taken}
 use Rattle.logrun.specs.ProgressLaws.{taken-ready, taken-at-most, words-ready}
 use Rattle.panel.specs.declared.Answer.{Answer}
+use Rattle.parameters.specs.Refusals.{number_told, slot_told}
 use Rattle.panel.specs.declared.Loaded.{Loaded}
 use Rattle.panel.specs.Load.{loaded_of}
 use Rattle.panel.specs.Telegrams.{diagnosed_of, built_by}
@@ -122,7 +123,7 @@ log-most s line = by (is_log (words_behind line)) refl
 
 opening-most : (l : Loaded) → length (opening_text l) ≤ room
 unfolding opening_text
-opening-most l = by-test (eqb l.refusal 0) _ _ (λ (x : List ℕ). length x ≤ room) (λ _. omega (arith, header-line-at-most)) (λ _. omega (arith, load-line-at-most l.refusal l.slot))
+opening-most l = by-test (is_none l.refusal) _ _ (λ (x : List ℕ). length x ≤ room) (λ _. omega (arith, header-line-at-most)) (λ _. omega (arith, load-line-at-most (number_told l.refusal) (slot_told l.refusal)))
 
 numbers-most : (a b c : ℕ) → length (numbers_text a b c) ≤ 60
 numbers-most a b c = simp length-append (omega (arith, text-at-most-19 (pos a), text-at-most-19 (pos b), text-at-most-19 (pos c)))

@@ -7,7 +7,7 @@ mod log_words; // log_words.rt: the words of a log, and a table, as bytes
 mod orders; // orders.rt: the word that a line begins with
 pub mod reader; // reader.rt: lines from an input
 
-ghost use Rattle.std.specs.Prelude.{◌≡◌, ◌+◌, ◌*◌, ◌≤◌, eqb, length, take};
+ghost use Rattle.std.specs.Prelude.{◌≡◌, ◌+◌, ◌*◌, ◌≤◌, is_none, length, take};
 ghost use Rattle.lines.specs.LineLaws.{longest};
 ghost use Rattle.logrun.specs.Progress.{Ready, start_of};
 ghost use Rattle.logrun.specs.Input.{table_of};
@@ -118,7 +118,7 @@ fn heading(s: Sheet, line: &[u8], out: &mut [u8]) -> Said
 fn opened(bytes: &[u8], n: usize, out: &mut [u8]) -> Opened
     requires { longest ≤ length out.old }
     ensures is { result.progress ≡ start_of (loaded_of (table_of (take n bytes.now))).state }
-    ensures loads { result.loaded ≡ eqb (loaded_of (table_of (take n bytes.now))).refusal 0 }
+    ensures loads { result.loaded ≡ is_none (loaded_of (table_of (take n bytes.now))).refusal }
     ensures text { Put out.old 0 (opening_text (loaded_of (table_of (take n bytes.now)))) result.end out.new }
 {
     if n < bytes.len() {

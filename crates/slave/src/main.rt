@@ -208,12 +208,12 @@ fn open_events(node: u8, state: State, rt: HostRuntime)
 // Starts the panel, or says why it does not start.
 fn start(node: u32, words: [i32; 104], rt: HostRuntime) {
     let l = registers::start(node, &words);
-    if l.refusal != 0 {
+    if let Some(refusal) = l.refusal {
         let mut errors = rt.stderr();
         ports::write_all(&mut errors, b"slave: start ");
-        ports::print_decimal(&mut errors, l.refusal as u64);
+        ports::print_decimal(&mut errors, refusal.number() as u64);
         ports::write_all(&mut errors, b" ");
-        ports::print_decimal(&mut errors, l.slot as u64);
+        ports::print_decimal(&mut errors, refusal.slot() as u64);
         ports::write_all(&mut errors, b"\n");
         return;
     }
