@@ -1,6 +1,7 @@
 // The words of a text, as parts of it.
 ghost use Rattle.std.specs.Prelude.{◌≡◌};
 ghost use Rattle.std.specs.Iterator.{YieldsFirstRef, item_count};
+ghost use Rattle.decimal.specs.Decimal.{same_text};
 ghost use Rattle.text.specs.Words.{words_of, trimmed_of, only_of};
 ghost use Rattle.text.specs.WordSteps.{unspaced_of, word_length, word_of, rest_of};
 
@@ -71,6 +72,15 @@ pub fn only(s: &[u8]) -> &[u8]
         return word(s);
     }
     &s[..0]
+}
+
+// Whether two texts are the same.
+// Kept: (d) `==` takes no slice beside an array, so that a word in quotes would need `.as_slice()` at each test.
+#[tactic(auto, unfolding(decimal::specs::Decimal::same_text))]
+pub fn same(a: &[u8], b: &[u8]) -> bool
+    ensures { result ≡ same_text a.now b.now }
+{
+    a == b
 }
 
 // A line without a carriage return at its end.
