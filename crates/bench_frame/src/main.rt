@@ -1,6 +1,6 @@
 // Serves frames by `registers::answer` again and again, for bench/run to time, and prints a sum over all answers.
 // Standard input: a table as panelrun has it, then frames, each behind its length of 2 bytes, lowest first; at most 512 KiB of them. Argument: how often they are served.
-// Uses `registers` for the answers to `modbus` frames on the values of `state`, `logrun` for the table, `decimal` for the argument, and `ports` to read and write.
+// Uses `registers` for the answers to `modbus` frames on the values of `state`, `logrun` for the table, `timing` for the argument and the sum, and `ports` to read.
 #![tactic(auto)]
 
 ghost use Rattle.std.specs.Prelude.{◌≡◌, ◌≤◌, length};
@@ -9,7 +9,7 @@ ghost use Rattle.state.specs.Valid.{Good};
 
 use modbus::replies::Reply;
 use state::{Live, State};
-use std::env::Env;
+use timing::{Summed, mixed, rounds};
 
 // The node that serves.
 const NODE: u8 = 1;
@@ -19,12 +19,6 @@ fn frame_room() -> [u8; 524288]
     ensures { 524288 ≡ length result }
 {
     [0; 524288]
-}
-
-// 31 times the sum and a number, modulo 2^64.
-fn mixed(sum: u64, n: u64) -> u64 {
-    let times_31 = std::num::wrapping_sub_u64(sum << 5, sum);
-    std::num::wrapping_add_u64(times_31, n)
 }
 
 // The sum after the bytes of a reply.
@@ -45,17 +39,8 @@ fn with_answer(sum: u64, reply: Reply, refusal: u8) -> u64
     mixed(with_bytes(sum, &bytes[..n]), u64::from(refusal))
 }
 
-// What an answer leaves beside the table.
-#[derive(Clone, Copy)]
-struct Summed {
-    // The live values.
-    live: Live,
-    // The sum so far.
-    sum: u64,
-}
-
 // One frame.
-fn serve(t: &mut [i32; 104], x: Summed, frame: &[u8]) -> Summed
+fn serve(t: &mut [i32; 104], x: Summed<Live>, frame: &[u8]) -> Summed<Live>
     requires { Good (state_of t.old x.live) }
     ensures { Good (state_of t.new result.live) }
 {
@@ -70,7 +55,7 @@ fn serve(t: &mut [i32; 104], x: Summed, frame: &[u8]) -> Summed
 }
 
 // All frames once; one that is cut off at the end is left out.
-fn serve_all(t: &mut [i32; 104], x: Summed, frames: &[u8]) -> Summed
+fn serve_all(t: &mut [i32; 104], x: Summed<Live>, frames: &[u8]) -> Summed<Live>
     requires { Good (state_of t.old x.live) }
     ensures { Good (state_of t.new result.live) }
 {
@@ -101,24 +86,6 @@ fn repeated(s: State, frames: &[u8], rounds: u64) -> u64
     x.sum
 }
 
-// The argument as a number, 0 where it is none.
-fn rounds<E: Env>(env: &E) -> u64 {
-    let mut word = [0u8; 32];
-    let n = ports::arg(env, 1, &mut word);
-    match decimal::parse(&word[..n]) {
-        Some(z) => unsigned(z),
-        None => 0,
-    }
-}
-
-// A number that is not negative, else 0.
-fn unsigned(z: i64) -> u64 {
-    if z < 0 {
-        return 0;
-    }
-    z as u64
-}
-
 fn main(rt: HostRuntime) {
     let mut input = rt.stdin();
     let mut output = rt.stdout();
@@ -129,6 +96,5 @@ fn main(rt: HostRuntime) {
     let m = ports::read_full(&mut input, &mut frames);
     let s = l.state;
     let sum = repeated(s, &frames[..m], rounds(&rt));
-    ports::print_decimal(&mut output, sum);
-    ports::write_all(&mut output, b"\n");
+    timing::tell(&mut output, sum);
 }

@@ -1,19 +1,17 @@
 // Runs the events of a log through `panel::advance` again and again, for bench/run to time, and prints a sum over all answers.
 // Standard input: an input of panelrun with at most 8,192 words of log. Argument: how often the log is run.
 // Uses `logrun` and `events` to read the input, `panel` for the steps on the values of `state`, `runs` for the words that stand for events, `measurement` and `analog` for error and drive, `driverecord` for the record,
-// `decimal` for the argument, and `ports` to read and write.
+// `timing` for the argument and the sum, and `ports` to read.
 #![tactic(auto)]
 
 ghost use Rattle.std.specs.Prelude.{◌*◌, ◌≤◌, length};
-ghost use Rattle.driverecord.specs.Numbers.{Numbers};
 ghost use Rattle.state.specs.State.{state_of};
 ghost use Rattle.state.specs.Valid.{Good};
 
 use analog::Drive;
-use driverecord::DriveRecord;
 use events::{Event, Taken};
 use state::{Live, Outcome, State};
-use std::env::Env;
+use timing::{Summed, raised, record_part, rounds};
 
 // The word that stands for an event.
 fn word_of(e: Event) -> u64 {
@@ -69,13 +67,6 @@ fn above(x: f32, limit: f32) -> u64
     0
 }
 
-// A signed word as a number that is not negative.
-fn raised(z: i32) -> u64
-    ensures { result ≤ 4294967295 }
-{
-    (z as i64 + 0x8000_0000) as u64
-}
-
 // The levels of the outputs as a number.
 fn outs_part(outs: [bool; 4]) -> u64
     ensures { result ≤ 15 }
@@ -93,24 +84,6 @@ fn bit(high: bool) -> u64
     0
 }
 
-// The record of the drive as a number: the bits of its floats, and its mark.
-fn record_part(d: DriveRecord) -> u64
-    requires { Numbers d }
-    ensures { result ≤ 343597383600 }
-{
-    let floats = wide(f32::to_bits(d.present))
-        + wide(f32::to_bits(d.lowest))
-        + wide(f32::to_bits(d.highest));
-    19 * floats + 23 * wide(d.empty)
-}
-
-// A word as a number of 64 bits.
-fn wide(w: u32) -> u64
-    ensures { result ≤ 4294967295 }
-{
-    w as u64
-}
-
 // What an answer adds to the sum.
 fn part(t: &[i32; 104], o: Outcome) -> u64 {
     let l = o.live;
@@ -125,15 +98,8 @@ fn part(t: &[i32; 104], o: Outcome) -> u64 {
     values + rest + 5 * (measurement::error_number(error) as u64) + told
 }
 
-// The live values and the sum so far.
-#[derive(Clone, Copy)]
-struct Summed {
-    live: Live,
-    sum: u64,
-}
-
 // One run of the events. The record is added when it has ended, so that its upkeep is timed and not its reading.
-fn run_once(t: &mut [i32; 104], x: Summed, words: &[u64]) -> Summed
+fn run_once(t: &mut [i32; 104], x: Summed<Live>, words: &[u64]) -> Summed<Live>
     requires { Good (state_of t.old x.live) }
     ensures { Good (state_of t.new result.live) }
 {
@@ -142,14 +108,14 @@ fn run_once(t: &mut [i32; 104], x: Summed, words: &[u64]) -> Summed
     let mut i: usize = 0;
     while i < words.len() {
         let o = panel::advance(t, live, runs::event_of(words[i]));
-        sum = std::num::wrapping_add_u64(sum, part(t, o));
+        sum = sum.wrapping_add(part(t, o));
         live = o.live;
         i += 1;
     }
     let driven = live.driven;
     Summed {
         live,
-        sum: std::num::wrapping_add_u64(sum, record_part(driven)),
+        sum: sum.wrapping_add(record_part(driven)),
     }
 }
 
@@ -160,30 +126,10 @@ fn repeated(s: State, words: &[u64], rounds: u64) -> u64
     let mut table = s.table;
     let l = s.live;
     let mut x = Summed { live: l, sum: 0 };
-    let mut left = rounds;
-    while left > 0 {
+    for _ in 0..rounds {
         x = run_once(&mut table, x, words);
-        left -= 1;
     }
     x.sum
-}
-
-// The argument as a number, 0 where it is none.
-fn rounds<E: Env>(env: &E) -> u64 {
-    let mut word = [0u8; 32];
-    let n = ports::arg(env, 1, &mut word);
-    match decimal::parse(&word[..n]) {
-        Some(z) => unsigned(z),
-        None => 0,
-    }
-}
-
-// A number that is not negative, else 0.
-fn unsigned(z: i64) -> u64 {
-    if z < 0 {
-        return 0;
-    }
-    z as u64
 }
 
 fn main(rt: HostRuntime) {
@@ -198,6 +144,5 @@ fn main(rt: HostRuntime) {
     let count = collect(&log[..m], &mut words);
     let s = l.state;
     let sum = repeated(s, &words[..count], rounds(&rt));
-    ports::print_decimal(&mut output, sum);
-    ports::write_all(&mut output, b"\n");
+    timing::tell(&mut output, sum);
 }

@@ -1,11 +1,8 @@
--- `bench_step::repeated` is safe and ends. The invariant: the state is valid, as `run_once` promises. The measure is the number of runs left.
+-- `bench_step::repeated` is safe. The invariant: the state is valid, as `run_once` promises.
 use Rattle.std.proofs.Common.{rules}
 use Rattle.state.specs.State.{state_of}
 use Rattle.state.specs.Valid.{Good}
 use Rattle.bench_step.proofs.repeated.Given as goal
 
-abbrev pub invariant-loop-left : goal.invariant-loop-left
-invariant-loop-left l = Good (state_of l.table l.x.live)
-
-abbrev pub decreases-loop-left : goal.decreases-loop-left
-decreases-loop-left l = l.left
+abbrev pub invariant-loop : goal.invariant-loop
+invariant-loop l = Good (state_of l.table l.x.live)
