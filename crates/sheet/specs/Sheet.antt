@@ -1,7 +1,7 @@
 -- THE MEANING OF A LINE of the gate's runs: what is kept after it (`after_line`), and what is printed for it (`line_text`).
 -- A run is a table, given by what differs from the defaults, and a log, given piece by piece; it prints what panelrun prints. The other lines ask what panelrun does not print.
 -- Main property (SheetLaws): what is printed fits into `room` bytes. Assumes nothing.
-use Rattle.std.specs.Prelude.{Bool, true, false, cond, List, [], ◌∷◌, ◌++◌, map, ℕ, ◌+◌, ◌*◌, ◌^◌, ◌-◌, eqb, ltb, ℤ, length, take}
+use Rattle.std.specs.Prelude.{Bool, true, false, cond, List, [], ◌∷◌, ◌++◌, map, ℕ, ◌+◌, ◌*◌, ◌^◌, ◌-◌, eqb, ltb, ℤ, length, take, Some, Ok}
 use mir.Val.{bool_byte}
 use Rattle.text.specs.HexList.{hexes_of}
 use Rattle.state.specs.declared.Extremes.{Extremes as LeastAndGreatest}
@@ -9,7 +9,6 @@ use Rattle.state.specs.State.{fresh_of}
 use Rattle.decimal.specs.Decimal.{text_of}
 use Rattle.events.specs.declared.Event.{Event}
 use Rattle.events.specs.declared.Event.TheVariants as Event
-use Rattle.events.specs.declared.Taken.TheVariants.{Happened}
 use Rattle.events.specs.Bytes.{words_in}
 use Rattle.integers.specs.TwosComplement.{bits_of}
 use Rattle.lines.specs.Lines.{line_with}
@@ -180,10 +179,10 @@ extremes_text x = (extremes_word ++ (space ∷ [])) ++ results_text (bool_byte x
 -- ---- the lines of `script`: `slot N V`, `start`, and events that the panel is stepped with directly
 
 abbrev pub after_event : Sheet → Event → Sheet
-after_event s e = with_run s (after_taken s.progress s.progress.pending (Happened e)) s.running
+after_event s e = with_run s (after_taken s.progress s.progress.pending (Ok (Some e))) s.running
 
 abbrev pub event_text : Sheet → Event → List ℕ
-event_text s e = text_taken s.progress (Happened e)
+event_text s e = text_taken s.progress (Ok (Some e))
 
 unfoldable pub after_plain : Sheet → Command → Sheet
 after_plain s Blank = s

@@ -8,7 +8,6 @@ use Rattle.parameters.proofs.LoadLaws.{slot_small}
 use Rattle.text.specs.PutLaws.{put-within}
 use Rattle.logrun.specs.Input.{table_of}
 use Rattle.logrun.specs.Output.{opening_text}
-use borrow.Author.Rules.{rules}
 use Rattle.logrun.proofs.open.Goals as goal
 
 pub returns-then-l-eq0 : goal.returns-then-l-eq0
