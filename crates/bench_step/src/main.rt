@@ -9,7 +9,7 @@ ghost use Rattle.state.specs.State.{state_of};
 ghost use Rattle.state.specs.Valid.{Good};
 
 use analog::Drive;
-use events::{Event, Taken};
+use events::Event;
 use state::{Live, Outcome, State};
 use timing::{Summed, raised, record_part, rounds};
 
@@ -29,19 +29,14 @@ fn collect(log: &[u8], events: &mut [u64]) -> usize
 {
     let mut pending = events::fresh();
     let mut count: usize = 0;
-    let mut i: usize = 0;
-    while i + 4 <= log.len() {
-        let s = events::take(
-            pending,
-            events::word_at(log[i], log[i + 1], log[i + 2], log[i + 3]),
-        );
+    for word in log.chunks_exact(4) {
+        let w = events::word_at(word[0], word[1], word[2], word[3]);
+        let s = events::take(pending, w);
         pending = s.pending;
-        let taken = s.taken;
-        if let Taken::Happened(e) = taken {
+        if let Ok(Some(e)) = s.taken {
             events[count] = word_of(e);
             count += 1;
         }
-        i += 4;
     }
     count
 }

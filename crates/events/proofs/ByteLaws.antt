@@ -3,7 +3,7 @@ use Rattle.std.specs.Prelude.{◌≡◌, refl, List, [], ◌∷◌, ◌++◌, �
 use Rattle.std.proofs.Common.{ap, ◌∙◌, arith, length-drop, drop-cons}
 use Rattle.events.specs.Words.{word_at}
 use Rattle.events.specs.declared.Pending.{Pending}
-use Rattle.events.specs.Log.{fresh_pending, taken_of, end_of, before, log_from}
+use Rattle.events.specs.Log.{fresh_pending, taken_of, end_of, end_number, before, log_from}
 use Rattle.events.proofs.LogLaws.{ends, log-word, log-end, log-start}
 use Rattle.events.specs.Bytes.{words_in, left_over, log_of_bytes}
 
@@ -57,5 +57,5 @@ module _ (p : Pending) (bytes : List ℕ) (i left : ℕ) where
       → log_from p (words_in (drop i bytes)) left ≡ before (taken_of p (word_from bytes i)).taken (log_from (taken_of p (word_from bytes i)).pending (words_in (drop (i + 4) bytes)) left)
   bytes_next h = ap (λ (ws : List ℕ). log_from p ws left) (words-next bytes i h) ∙ log-word p (word_from bytes i) (words_in (drop (i + 4) bytes)) left
 
-  pub bytes-done : length bytes < i + 4 → log_from p (words_in (drop i bytes)) left ≡ ends (end_of p left)
+  pub bytes-done : length bytes < i + 4 → log_from p (words_in (drop i bytes)) left ≡ ends (end_number (end_of p left))
   bytes-done h = ap (λ (ws : List ℕ). log_from p ws left) (words-done bytes i h) ∙ log-end p left

@@ -1,27 +1,45 @@
 -- A log gives its events in order and then a number: 0 at its end, or the 14, 15 or 16 that ends it.
 -- Paper 01, "panelrun and its log", and "Where each check sits", log.
-use Rattle.std.specs.Prelude.{Bool, true, false, cond, not, List, [], ◌∷◌, ℕ, eqb}
+use Rattle.std.specs.Prelude.{Bool, cond, not, List, [], ◌∷◌, ℕ, eqb, Option, Some, None, Result, Ok, Err, is_some}
+use Rattle.std.specs.Option.{unwrap_or}
 use Rattle.events.specs.declared.Event.{Event}
 use Rattle.events.specs.declared.Event.TheVariants.{Telegram, Levels, Tick}
 use Rattle.events.specs.declared.Pending.{Pending}
-use Rattle.events.specs.declared.Taken.{Taken}
-use Rattle.events.specs.declared.Taken.TheVariants.{Happened, Nothing, Refused}
+use Rattle.events.specs.declared.Refusal.{Refusal}
+use Rattle.events.specs.declared.Refusal.TheVariants.{Reserved, OutOfOrder, LeftOver}
 use Rattle.events.specs.declared.AfterWord.{AfterWord}
 use Rattle.events.specs.Words.{kind_of, ms_of, levels_of, half_of, joined, reserved_set}
 
 -- no upper half is waiting: before the first word, and after each word but an upper half
 abbrev pub fresh_pending : Pending
-fresh_pending = record { waiting = false; upper = 0 }
+fresh_pending = record { upper = None }
+
+-- the numbers of the refusals
+abbrev pub refusal_number : Refusal → ℕ
+refusal_number Reserved = 14
+refusal_number OutOfOrder = 15
+refusal_number LeftOver = 16
+
+-- what a word gives
+abbrev pub Taken : Type 0
+Taken = Result (Option Event) Refusal
 
 -- a word gives an event, or is an upper half that is kept, or is refused
 abbrev pub happened : Event → AfterWord
-happened e = record { pending = fresh_pending; taken = Happened e }
+happened e = record { pending = fresh_pending; taken = Ok (Some e) }
 
 abbrev pub kept : ℕ → AfterWord
-kept upper = record { pending = record { waiting = true; upper = upper }; taken = Nothing }
+kept upper = record { pending = record { upper = Some upper }; taken = Ok None }
 
-abbrev pub refused : ℕ → AfterWord
-refused refusal = record { pending = fresh_pending; taken = Refused refusal }
+abbrev pub refused : Refusal → AfterWord
+refused refusal = record { pending = fresh_pending; taken = Err refusal }
+
+-- whether an upper half is waiting, and it, 0 where none is
+abbrev pub waiting : Pending → Bool
+waiting p = is_some p.upper
+
+abbrev pub upper_of : Pending → ℕ
+upper_of p = unwrap_or p.upper 0
 
 -- "A lower half comes directly after its upper half and nowhere else; anything else after an upper half .. gives 15":
 -- after an upper half each word but a lower half is out of order, elsewhere each lower half
@@ -35,14 +53,23 @@ accepted_of upper w =
     (cond (eqb (kind_of w) 1) (happened (Levels (levels_of w)))
     (cond (eqb (kind_of w) 2) (kept (half_of w)) (happened (Telegram (joined upper (half_of w))))))
 
+-- a word with no reserved bit set
+abbrev pub ordered_of : Pending → ℕ → AfterWord
+ordered_of p w = cond (out_of_order (waiting p) w) (refused OutOfOrder) (accepted_of (upper_of p) w)
+
 -- one word: "14 is tested before 15"
 unfoldable pub taken_of : Pending → ℕ → AfterWord
-taken_of p w = cond (reserved_set w) (refused 14) (cond (out_of_order p.waiting w) (refused 15) (accepted_of p.upper w))
+taken_of p w = cond (reserved_set w) (refused Reserved) (ordered_of p w)
 
 -- the log's end: "left-over bytes give 16 only, even after an upper half"; an upper half left waiting gives 15.
 -- A whole log leaves 0 to 3 bytes over; any number of them but 0 gives 16
-unfoldable pub end_of : Pending → ℕ → ℕ
-end_of p left = cond (eqb left 0) (cond p.waiting 15 0) 16
+unfoldable pub end_of : Pending → ℕ → Result Unit Refusal
+end_of p left = cond (eqb left 0) (cond (waiting p) (Err OutOfOrder) (Ok tt)) (Err LeftOver)
+
+-- its number: 0 where it is not refused
+abbrev pub end_number : Result Unit Refusal → ℕ
+end_number (Ok x) = 0
+end_number (Err refusal) = refusal_number refusal
 
 -- what a log gives: its events, and the number that `end` carries
 pub record Log : Type 0 where
@@ -51,13 +78,13 @@ pub record Log : Type 0 where
 
 -- what a word makes of what the rest of the log gives: "A log refusal ends the run"
 abbrev pub before : Taken → Log → Log
-before (Happened e) rest = record { events = e ∷ rest.events; refusal = rest.refusal }
-before Nothing rest = rest
-before (Refused refusal) rest = record { events = []; refusal = refusal }
+before (Ok (Some e)) rest = record { events = e ∷ rest.events; refusal = rest.refusal }
+before (Ok None) rest = rest
+before (Err refusal) rest = record { events = []; refusal = refusal_number refusal }
 
 -- the words of a log from some place on, and the number of bytes left over behind them
 unfoldable pub log_from : Pending → List ℕ → ℕ → Log
-log_from p [] left = record { events = []; refusal = end_of p left }
+log_from p [] left = record { events = []; refusal = end_number (end_of p left) }
 log_from p (w ∷ ws) left = before (taken_of p w).taken (log_from (taken_of p w).pending ws left)
 
 -- THE MEANING of a log: its whole words, and the number of bytes left over

@@ -7,6 +7,8 @@
 --     2 upper half            bits 15..0          bits 29..16
 --     3 lower half            bits 15..0          bits 29..16
 use Rattle.std.specs.Prelude.{Bool, cond, not, ℕ, ◌+◌, ◌-◌, ◌*◌, ◌/◌, ◌%◌, ◌^◌, eqb}
+use Rattle.events.specs.declared.parts.Kind.{Kind}
+use Rattle.events.specs.declared.parts.Kind.TheVariants.{Tick, Levels, Upper, Lower}
 
 -- "all 4 bytes, lowest byte first"
 abbrev pub word_at : ℕ → ℕ → ℕ → ℕ → ℕ
@@ -19,6 +21,13 @@ bits_of high low w = w / 2 ^ low % 2 ^ (high + 1 - low)
 -- "Bits 31..30 are the kind"
 abbrev pub kind_of : ℕ → ℕ
 kind_of w = bits_of 31 30 w
+
+-- the numbers of the kinds
+abbrev pub kind_number : Kind → ℕ
+kind_number Tick = 0
+kind_number Levels = 1
+kind_number Upper = 2
+kind_number Lower = 3
 
 -- "0 tick (bits 15..0 ms)"
 abbrev pub ms_of : ℕ → ℕ

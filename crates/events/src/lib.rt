@@ -7,7 +7,9 @@ mod parts;
 ghost use Rattle.std.specs.Prelude.{◌≡◌};
 ghost use Rattle.events.specs.Words.{word_at};
 ghost use Rattle.events.specs.Bytes.{least_first};
-ghost use Rattle.events.specs.Log.{fresh_pending, kept, refused, happened, accepted_of, out_of_order, taken_of, end_of};
+ghost use Rattle.events.specs.Log.{fresh_pending, refusal_number, kept, refused, happened, ordered_of, taken_of, end_of};
+
+use parts::Kind;
 
 // What the engine works on.
 #[derive(Clone, Copy)]
@@ -23,21 +25,32 @@ pub enum Event {
 // What is kept from one word of the log to the next.
 #[derive(Clone, Copy)]
 pub struct Pending {
-    // Whether the word before was an upper half, which waits for its lower half.
-    pub waiting: bool,
-    // The upper half, 0 where none is waiting.
-    pub upper: u16,
+    // The upper half that waits for its lower half, where the word before was one.
+    pub upper: Option<u16>,
 }
 
-// What a word gives.
+// Why a log is refused, which ends it.
 #[derive(Clone, Copy)]
-pub enum Taken {
-    // An event.
-    Happened(Event),
-    // Nothing yet: the upper half of a telegram is kept.
-    Nothing,
-    // The number of the refusal, 14 or 15, which ends the log.
-    Refused(u8),
+pub enum Refusal {
+    // A reserved bit is set.
+    Reserved,
+    // A half of a telegram without its other half directly beside it.
+    OutOfOrder,
+    // Bytes are left over behind the last whole word.
+    LeftOver,
+}
+
+impl Refusal {
+    // Its number.
+    pub fn number(self) -> u8
+        ensures { result ≡ refusal_number self }
+    {
+        match self {
+            Refusal::Reserved => 14,
+            Refusal::OutOfOrder => 15,
+            Refusal::LeftOver => 16,
+        }
+    }
 }
 
 // The answer to one word.
@@ -45,46 +58,38 @@ pub enum Taken {
 pub struct AfterWord {
     // What is kept for the next word.
     pub pending: Pending,
-    // What the word gives.
-    pub taken: Taken,
+    // What the word gives: an event, or none yet where the upper half of a telegram is kept.
+    pub taken: Result<Option<Event>, Refusal>,
 }
 
 // Before the first word: no half is waiting.
 pub fn fresh() -> Pending
     ensures { result ≡ fresh_pending }
 {
-    Pending {
-        waiting: false,
-        upper: 0,
-    }
+    Pending { upper: None }
 }
 
 // A word of four bytes, the lowest first.
 pub fn word_at(b0: u8, b1: u8, b2: u8, b3: u8) -> u32
     ensures { result ≡ word_at b0 b1 b2 b3 }
 {
-    (b0 as u32) + (b1 as u32) * 0x100 + (b2 as u32) * 0x1_0000 + (b3 as u32) * 0x100_0000
+    u32::from_le_bytes([b0, b1, b2, b3])
 }
 
 // The four bytes of a word, the lowest first.
 pub fn bytes_of(w: u32) -> [u8; 4]
     ensures { result ≡ least_first w }
 {
-    [
-        (w % 256) as u8,
-        (w / 256 % 256) as u8,
-        (w / 65536 % 256) as u8,
-        (w / 16777216) as u8,
-    ]
+    w.to_le_bytes()
 }
 
 // A word that is refused.
-fn refuse(refusal: u8) -> AfterWord
+fn refuse(refusal: Refusal) -> AfterWord
     ensures { result ≡ refused refusal }
 {
     AfterWord {
         pending: fresh(),
-        taken: Taken::Refused(refusal),
+        taken: Err(refusal),
     }
 }
 
@@ -94,7 +99,7 @@ fn give(event: Event) -> AfterWord
 {
     AfterWord {
         pending: fresh(),
-        taken: Taken::Happened(event),
+        taken: Ok(Some(event)),
     }
 }
 
@@ -103,33 +108,30 @@ fn keep(upper: u16) -> AfterWord
     ensures { result ≡ kept upper }
 {
     AfterWord {
-        pending: Pending {
-            waiting: true,
-            upper,
-        },
-        taken: Taken::Nothing,
+        pending: Pending { upper: Some(upper) },
+        taken: Ok(None),
     }
 }
 
-// Whether a word is out of order: a lower half with no upper half before it, or any other word after an upper half.
-fn out_of_order(waiting: bool, w: u32) -> bool
-    ensures { result ≡ out_of_order waiting w }
+// A word directly after the upper half `upper`.
+fn after_upper(upper: u16, w: u32) -> AfterWord
+    ensures { result ≡ ordered_of (record { upper = Some upper }) w }
 {
-    if waiting {
-        return parts::kind(w) != 3;
+    match parts::kind_of(w) {
+        Kind::Lower => give(Event::Telegram(parts::telegram(upper, parts::half(w)))),
+        _ => refuse(Refusal::OutOfOrder),
     }
-    parts::kind(w) == 3
 }
 
-// A word in order, after the upper half `upper` where it is a lower half.
-fn accept(upper: u16, w: u32) -> AfterWord
-    ensures { result ≡ accepted_of upper w }
+// A word elsewhere.
+fn elsewhere(w: u32) -> AfterWord
+    ensures { result ≡ ordered_of fresh_pending w }
 {
-    match parts::kind(w) {
-        0 => give(Event::Tick(parts::ms(w))),
-        1 => give(Event::Levels(parts::levels(w))),
-        2 => keep(parts::half(w)),
-        _ => give(Event::Telegram(parts::telegram(upper, parts::half(w)))),
+    match parts::kind_of(w) {
+        Kind::Tick => give(Event::Tick(parts::ms(w))),
+        Kind::Levels => give(Event::Levels(parts::levels(w))),
+        Kind::Upper => keep(parts::half(w)),
+        Kind::Lower => refuse(Refusal::OutOfOrder),
     }
 }
 
@@ -138,23 +140,23 @@ pub fn take(p: Pending, w: u32) -> AfterWord
     ensures { result ≡ taken_of p w }
 {
     if parts::reserved_set(w) {
-        return refuse(14);
+        return refuse(Refusal::Reserved);
     }
-    if out_of_order(p.waiting, w) {
-        return refuse(15);
+    match p.upper {
+        Some(upper) => after_upper(upper, w),
+        None => elsewhere(w),
     }
-    accept(p.upper, w)
 }
 
-// The end of the log after its last whole word, with the number of bytes left over: 0, 15 or 16.
-pub fn end(p: Pending, left_over: usize) -> u8
+// The end of the log after its last whole word, with the number of bytes left over.
+pub fn end(p: Pending, left_over: usize) -> Result<(), Refusal>
     ensures { result ≡ end_of p left_over }
 {
     if left_over != 0 {
-        return 16;
+        return Err(Refusal::LeftOver);
     }
-    if p.waiting {
-        return 15;
+    match p.upper {
+        Some(_) => Err(Refusal::OutOfOrder),
+        None => Ok(()),
     }
-    0
 }

@@ -1,6 +1,6 @@
 // The parts of a log word. Bits are numbered 31 to 0. Uses nothing.
 ghost use Rattle.std.specs.Prelude.{◌≡◌, ◌≤◌};
-ghost use Rattle.events.specs.Words.{bits_of, kind_of, reserved_set, ms_of, levels_of, half_of, joined};
+ghost use Rattle.events.specs.Words.{bits_of, kind_of, kind_number, reserved_set, ms_of, levels_of, half_of, joined};
 
 // Bits high..low of a word.
 fn bits(w: u32, high: u32, low: u32) -> u32
@@ -10,21 +10,39 @@ fn bits(w: u32, high: u32, low: u32) -> u32
     (w >> low) & (0xffff_ffff >> (31 - (high - low)))
 }
 
-// The kind: 0 tick, 1 levels, 2 upper half, 3 lower half of a telegram.
-pub fn kind(w: u32) -> u32
-    ensures { result ≡ kind_of w }
+// The kind of a word: what it carries.
+#[derive(Clone, Copy)]
+pub enum Kind {
+    // The time of a tick.
+    Tick,
+    // The levels of the inputs.
+    Levels,
+    // The upper half of a telegram.
+    Upper,
+    // The lower half of a telegram.
+    Lower,
+}
+
+// The kind, by its number.
+pub fn kind_of(w: u32) -> Kind
+    ensures { kind_number result ≡ kind_of w }
 {
-    bits(w, 31, 30)
+    match bits(w, 31, 30) {
+        0 => Kind::Tick,
+        1 => Kind::Levels,
+        2 => Kind::Upper,
+        _ => Kind::Lower,
+    }
 }
 
 // Whether any bit is set that the word's kind reserves.
 pub fn reserved_set(w: u32) -> bool
     ensures { result ≡ reserved_set w }
 {
-    if kind(w) == 1 {
-        return bits(w, 29, 3) != 0;
+    match kind_of(w) {
+        Kind::Levels => bits(w, 29, 3) != 0,
+        _ => bits(w, 29, 16) != 0,
     }
-    bits(w, 29, 16) != 0
 }
 
 // The ms of a tick.

@@ -1,76 +1,74 @@
 -- What the functions put for a whole input, in whatever pieces it comes, is what panelrun means: `output-in-pieces`.
-use Rattle.std.specs.Prelude.{◌≡◌, refl, Option, Some, None, is_none, Bool, true, false, List, [], ◌∷◌, ◌++◌, ℕ, ◌%◌, ◌<◌, eqb, length}
+use Rattle.std.specs.Prelude.{◌≡◌, refl, Option, Some, None, is_none, Bool, true, false, List, [], ◌∷◌, ◌++◌, ℕ, ◌%◌, ◌<◌, eqb, length, not, Ok, Err, is_some}
 use Rattle.std.proofs.Common.{sym, ap, ◌∙◌, append_assoc, append-nil, inl, inr, arith, take_at, drop_at, take_all}
 use borrow.Author.Tests.{eq-eqb, ne_eqb}
 use Rattle.events.specs.declared.Pending.{Pending}
-use Rattle.events.specs.declared.Taken.{Taken}
-use Rattle.events.specs.declared.Taken.TheVariants.{Happened, Nothing, Refused}
+use Rattle.events.specs.declared.Refusal.{Refusal}
 use Rattle.events.specs.Bytes.{words_in, left_over, log_of_bytes}
-use Rattle.events.specs.Log.{taken_of, end_of, Log, before, log_from}
+use Rattle.events.specs.Log.{Taken, taken_of, end_of, end_number, Log, before, log_from}
 use Rattle.events.proofs.LogLaws.{log-word, log-end, log-start}
-use Rattle.events.proofs.WordLaws.{Reason, word-reason}
 use Rattle.lines.specs.Lines.{header_line, event_line, next_count, end_line}
-use Rattle.parameters.specs.declared.Refusal.{Refusal}
+use Rattle.parameters.specs.declared.Refusal.{Refusal as LoadRefusal}
 use Rattle.panel.specs.declared.Loaded.{Loaded}
 use Rattle.state.specs.declared.State.{State}
 use Rattle.panel.specs.Load.{loaded_of}
 use Rattle.panel.specs.Step.{step_of}
 use Rattle.logrun.specs.declared.Progress.{Progress}
 use Rattle.logrun.specs.Input.{table_bytes, table_of, log_bytes}
-use Rattle.logrun.specs.Progress.{start_of, after_taken, text_taken, word_fed, word_text, words_fed, words_text, finished_of}
+use Rattle.logrun.specs.Progress.{running, ended_by, start_of, after_taken, text_taken, word_fed, word_text, words_fed, words_text, finished_of}
 use Rattle.logrun.specs.Output.{lines_of, run_text, opening_text, output_of}
 use Rattle.logrun.specs.InputLaws.{short-input}
 use Rattle.logrun.specs.ProgressLaws.{fed-running, text-running, words-fed-ended, words-text-ended}
 use Rattle.logrun.specs.Pieces.{Whole, last_line, pieces_text, AsRead, together}
 use Rattle.logrun.proofs.PieceLaws.{pieces-fed, pieces-text, left_both, piece-goes, piece-ends, goes, stops-refused, stops-short}
 
--- a word's refusal is not 0
-refused-some : (p : Pending) (w n : ℕ) → (taken_of p w).taken ≡ Refused n → eqb n 0 ≡ false
-refused-some p w n e = ne_eqb n 0 (λ z. by z (word-reason p w n e))
-  where
-    by : n ≡ 0 → Reason p w n → ⊥
-    by z (inl r) = omega (arith, r.0)
-    by z (inr r) = omega (arith, r.0)
-
 -- what is printed from a place of the log on
 abbrev pub rest_text : Progress → List ℕ → ℕ → List ℕ
-rest_text p ws left = words_text p ws ++ end_line (finished_of (words_fed p ws) left)
+rest_text p ws left = words_text p ws ++ end_line (end_number (finished_of (words_fed p ws) left))
 
 -- .. is the lines of the log's events from there on, and its number
 abbrev pub log_text : ℕ → State → Log → List ℕ
 log_text count s log = lines_of count s log.events ++ end_line log.refusal
 
 -- a run that has ended prints its end
-ended-text : (p : Progress) (ws : List ℕ) (left : ℕ) → eqb p.refusal 0 ≡ false → rest_text p ws left ≡ end_line p.refusal
+ended-text : (p : Progress) (ws : List ℕ) (left : ℕ) → running p ≡ false → rest_text p ws left ≡ end_line (end_number (finished_of p left))
+ended-text p ws left e = rw (words-text-ended p ws e, words-fed-ended p ws e)
+
+-- .. whatever is left over
+ended_same : (p : Progress) (left more : ℕ) → running p ≡ false → finished_of p left ≡ finished_of p more
 unfolding finished_of
-ended-text p ws left e = rw (words-text-ended p ws e, words-fed-ended p ws e, e)
+ended_same p left more e = by p.refusal e
+  where
+    by : (r : Option Refusal) → not (is_some r) ≡ false → ended_by r (end_of p.pending left) ≡ ended_by r (end_of p.pending more)
+    by None e = cc
+    by (Some refusal) e = refl
 
 -- what a word gives takes the run further, where the words behind it do
 run-taken : (p : Progress) (w : ℕ) (ws : List ℕ) (left : ℕ) (q : Pending) (t : Taken)
-    → ((r : Progress) → r.refusal ≡ 0 → rest_text r ws left ≡ log_text r.count r.state (log_from r.pending ws left))
+    → ((r : Progress) → r.refusal ≡ None → rest_text r ws left ≡ log_text r.count r.state (log_from r.pending ws left))
     → (taken_of p.pending w).taken ≡ t
     → text_taken p t ++ rest_text (after_taken p q t) ws left ≡ log_text p.count p.state (before t (log_from q ws left))
-unfolding text_taken after_taken lines_of
-run-taken p w ws left q (Happened e) behind t =
-    ap (λ (x : List ℕ). event_line (next_count p.count) e (step_of p.state e) ++ x) (behind (after_taken p q (Happened e)) refl) ∙ rw append_assoc
-run-taken p w ws left q Nothing behind t = behind (after_taken p q Nothing) refl
-run-taken p w ws left q (Refused n) behind t = ended-text (after_taken p q (Refused n)) ws left (refused-some p.pending w n t)
+unfolding text_taken after_taken lines_of finished_of
+run-taken p w ws left q (Ok (Some e)) behind t =
+    ap (λ (x : List ℕ). event_line (next_count p.count) e (step_of p.state e) ++ x) (behind (after_taken p q (Ok (Some e))) refl) ∙ rw append_assoc
+run-taken p w ws left q (Ok None) behind t = behind (after_taken p q (Ok None)) refl
+run-taken p w ws left q (Err n) behind t = ended-text (after_taken p q (Err n)) ws left refl
 
 -- one word, and what is printed behind it
 rest-next : (p : Progress) (w : ℕ) (ws : List ℕ) (left : ℕ) → rest_text p (w ∷ ws) left ≡ word_text p w ++ rest_text (word_fed p w) ws left
 unfolding words_text words_fed
-rest-next p w ws left = append_assoc (word_text p w) (words_text (word_fed p w) ws) (end_line (finished_of (words_fed (word_fed p w) ws) left))
+rest-next p w ws left = append_assoc (word_text p w) (words_text (word_fed p w) ws) (end_line (end_number (finished_of (words_fed (word_fed p w) ws) left)))
 
-rest-none : (p : Progress) (left : ℕ) → p.refusal ≡ 0 → rest_text p [] left ≡ end_line (end_of p.pending left)
+rest-none : (p : Progress) (left : ℕ) → p.refusal ≡ None → rest_text p [] left ≡ end_line (end_number (end_of p.pending left))
 unfolding words_text words_fed finished_of
-rest-none p left h = rw (eq-eqb p.refusal 0 h)
+rest-none p left h = rw h
 
 -- the words from any place of the log on print the log's lines from there on
-pub run-words : (p : Progress) (ws : List ℕ) (left : ℕ) → p.refusal ≡ 0 → rest_text p ws left ≡ log_text p.count p.state (log_from p.pending ws left)
+pub run-words : (p : Progress) (ws : List ℕ) (left : ℕ) → p.refusal ≡ None → rest_text p ws left ≡ log_text p.count p.state (log_from p.pending ws left)
 unfolding lines_of
 run-words p [] left h = rest-none p left h ∙ rw (log-end p.pending left)
 run-words p (w ∷ ws) left h =
-    let e = eq-eqb p.refusal 0 h in
+    let e : running p ≡ true = rw h in
     let s = taken_of p.pending w in
     rest-next p w ws left
     ∙ rw (text-running p w e, fed-running p w e, log-word p.pending w ws left)
@@ -89,22 +87,21 @@ rest_both : (p : Progress) (a b : List ℕ) → Whole a
 rest_both p a b h = rw (pieces-text p a b h, pieces-fed p a b h, left_both a b h, append_assoc)
 
 -- a run that ends in a piece prints no more
-rest_ended : (p : Progress) (a b : List ℕ) → Whole a → eqb (words_fed p (words_in a)).refusal 0 ≡ false
+rest_ended : (p : Progress) (a b : List ℕ) → Whole a → running (words_fed p (words_in a)) ≡ false
     → rest_text p (words_in (a ++ b)) (left_over (a ++ b)) ≡ words_text p (words_in a) ++ last_line p a
-unfolding finished_of
-rest_ended p a b h e = rest_both p a b h ∙ rw (ended-text (words_fed p (words_in a)) (words_in b) (left_over b) e, e)
+rest_ended p a b h e = rest_both p a b h ∙ rw (ended-text (words_fed p (words_in a)) (words_in b) (left_over b) e, ended_same (words_fed p (words_in a)) (left_over b) (left_over a) e)
 
 -- a full piece, where the pieces behind it print what is left of the log
 print-full : (full : ℕ) → full % 4 ≡ 0 → (p : Progress) (a : List ℕ) (more : List (List ℕ)) → length a ≡ full
     → pieces_text full (words_fed p (words_in a)) more ≡ rest_text (words_fed p (words_in a)) (words_in (together more)) (left_over (together more))
     → pieces_text full p (a ∷ more) ≡ rest_text p (words_in (a ++ together more)) (left_over (a ++ together more))
 unfolding pieces_text
-print-full full words p a more l behind = by (eqb (words_fed p (words_in a)).refusal 0) refl
+print-full full words p a more l behind = by (running (words_fed p (words_in a))) refl
   where
     whole : Whole a
     whole = rw l words
 
-    by : (t : Bool) → eqb (words_fed p (words_in a)).refusal 0 ≡ t → pieces_text full p (a ∷ more) ≡ rest_text p (words_in (a ++ together more)) (left_over (a ++ together more))
+    by : (t : Bool) → running (words_fed p (words_in a)) ≡ t → pieces_text full p (a ∷ more) ≡ rest_text p (words_in (a ++ together more)) (left_over (a ++ together more))
     by true e = let g = goes full p a e (omega arith) in rw (g, piece-goes full p a g, behind) (sym (rest_both p a (together more) whole))
     by false e = let g = stops-refused full p a e in rw (g, piece-ends full p a g, append-nil) (sym (rest_ended p a (together more) whole e))
 
@@ -125,7 +122,7 @@ log-behind : (table log : List ℕ) → length table ≡ table_bytes → log_byt
 log-behind table log h = drop_at table log table_bytes h
 
 -- a refusal that is not none is one
-no-none : (r : Option Refusal) → (r ≡ None → ⊥) → is_none r ≡ false
+no-none : (r : Option LoadRefusal) → (r ≡ None → ⊥) → is_none r ≡ false
 no-none None n = absurd (n refl)
 no-none (Some r) n = refl
 

@@ -1,5 +1,5 @@
 -- Two pieces of a log, the first of whole words, give what they give together; and what a piece prints, and how much.
-use Rattle.std.specs.Prelude.{◌≡◌, refl, true, false, List, [], ◌∷◌, ◌++◌, ℕ, ◌*◌, ◌≤◌, ◌<◌, eqb, length}
+use Rattle.std.specs.Prelude.{◌≡◌, refl, true, false, List, [], ◌∷◌, ◌++◌, ℕ, ◌*◌, ◌≤◌, ◌<◌, length}
 use Rattle.std.proofs.Common.{ap, ◌∙◌, append_assoc, append-nil, arith, length-append}
 use Rattle.std.proofs.Math.Bool.{and-false}
 use borrow.Author.Tests.{le-leb, lt-leb}
@@ -9,7 +9,7 @@ use Rattle.logrun.specs.declared.Progress.{Progress}
 use Rattle.lines.specs.LineLaws.{longest}
 use Rattle.logrun.specs.InputLaws.{words-length}
 use Rattle.logrun.specs.Pieces.{Whole, goes_on, last_line, piece_text}
-use Rattle.logrun.specs.Progress.{word_fed, words_fed, words_text}
+use Rattle.logrun.specs.Progress.{running, word_fed, words_fed, words_text}
 use Rattle.logrun.specs.ProgressLaws.{word-at-most}
 
 -- ---- words
@@ -56,11 +56,11 @@ module _ (full : ℕ) (p : Progress) (a : List ℕ) where
   piece-goes e = rw (e, append-nil)
 
   -- full and without a refusal, refused, or not full
-  pub goes : eqb (words_fed p (words_in a)).refusal 0 ≡ true → full ≤ length a → goes_on full p a ≡ true
+  pub goes : running (words_fed p (words_in a)) ≡ true → full ≤ length a → goes_on full p a ≡ true
   unfolding goes_on
   goes e h = rw (e, le-leb full (length a) h)
 
-  pub stops-refused : eqb (words_fed p (words_in a)).refusal 0 ≡ false → goes_on full p a ≡ false
+  pub stops-refused : running (words_fed p (words_in a)) ≡ false → goes_on full p a ≡ false
   unfolding goes_on
   stops-refused e = rw e
 

@@ -2,9 +2,9 @@
 // Uses `integers` for signed words, `events` for the log's words, `panel` for the steps on the values of `state`, and `lines` for what is printed.
 #![tactic(auto)]
 
-ghost use Rattle.std.specs.Prelude.{◌≡◌, ◌+◌, ◌*◌, ◌≤◌, is_none, length};
-ghost use Rattle.events.specs.declared.Taken.TheVariants.{Happened};
+ghost use Rattle.std.specs.Prelude.{◌≡◌, ◌+◌, ◌*◌, ◌≤◌, is_none, length, eqb};
 ghost use Rattle.events.specs.Bytes.{words_in};
+ghost use Rattle.events.specs.Log.{end_number};
 ghost use Rattle.lines.specs.Lines.{end_line};
 ghost use Rattle.lines.specs.LineLaws.{longest};
 ghost use Rattle.text.specs.Put.{Put};
@@ -15,7 +15,7 @@ ghost use Rattle.logrun.specs.Output.{opening_text};
 ghost use Rattle.logrun.specs.Pieces.{goes_on, piece_text};
 ghost use Rattle.logrun.specs.Progress.{start_of, course_of, progress_of, after_taken, text_taken, word_fed, word_text, words_fed, words_text, finished_of, Ready};
 
-use events::{Event, Pending, Taken};
+use events::{Event, Pending, Refusal};
 use integers::twos_complement;
 use panel::Loaded;
 use state::{Live, State};
@@ -32,8 +32,8 @@ pub struct Progress {
     pub pending: Pending,
     // How many events there were.
     pub count: u64,
-    // The refusal that ended the log, 0 while it runs.
-    pub refusal: u8,
+    // The refusal that ended the log, none while it runs.
+    pub refusal: Option<Refusal>,
 }
 
 // How far a run has come, beside the table.
@@ -45,24 +45,15 @@ struct Course {
     pending: Pending,
     // How many events there were.
     count: u64,
-    // The refusal that ended the log, 0 while it runs.
-    refusal: u8,
+    // The refusal that ended the log, none while it runs.
+    refusal: Option<Refusal>,
 }
 
 // What words of the log give.
 #[derive(Clone, Copy)]
-struct Printed {
-    // The course after them.
-    course: Course,
-    // Where the lines end in the buffer.
-    end: usize,
-}
-
-// What feeding the log gives.
-#[derive(Clone, Copy)]
-struct Fed {
-    // The run after it.
-    progress: Progress,
+struct Printed<T> {
+    // The run after them, as a progress or a course.
+    run: T,
     // Where the lines end in the buffer.
     end: usize,
 }
@@ -95,16 +86,8 @@ fn table_of(bytes: &[u8]) -> [i32; 104]
     ensures { result ≡ table_of bytes.now }
 {
     let mut t = [0i32; 104];
-    let mut k: usize = 0;
-    while k < 104 {
-        let i = 4 * k;
-        t[k] = twos_complement::signed(events::word_at(
-            bytes[i],
-            bytes[i + 1],
-            bytes[i + 2],
-            bytes[i + 3],
-        ));
-        k += 1;
+    for (k, word) in bytes[..TABLE_BYTES].chunks_exact(4).enumerate() {
+        t[k] = twos_complement::signed(events::word_at(word[0], word[1], word[2], word[3]));
     }
     t
 }
@@ -131,7 +114,7 @@ pub fn start(s: State) -> Progress
         state: s,
         pending: events::fresh(),
         count: 0,
-        refusal: 0,
+        refusal: None,
     }
 }
 
@@ -204,10 +187,10 @@ fn event(
     e: Event,
     out: &mut [u8],
     at: usize,
-) -> Printed
+) -> Printed<Course>
     requires { Ready (progress_of t.old c) × (at + longest ≤ length out.old) }
-    ensures is { progress_of t.new result.course ≡ after_taken (progress_of t.old c) pending (Happened e) }
-    ensures text { Put out.old at (text_taken (progress_of t.old c) (Happened e)) result.end out.new }
+    ensures is { progress_of t.new result.run ≡ after_taken (progress_of t.old c) pending (Ok (Some e)) }
+    ensures text { Put out.old at (text_taken (progress_of t.old c) (Ok (Some e))) result.end out.new }
 {
     let count = lines::next_count(c.count);
     let l = c.live;
@@ -215,23 +198,23 @@ fn event(
     let live = o.live;
     let end = lines::event_line(out, at, count, e, t, o);
     Printed {
-        course: Course {
+        run: Course {
             live,
             pending,
             count,
-            refusal: 0,
+            refusal: None,
         },
         end,
     }
 }
 
-// A word that has no line: an upper half with refusal 0, or a word that is refused.
-fn quiet(c: Course, pending: Pending, refusal: u8, at: usize) -> Printed
-    ensures { result ≡ record { course = record { live = c.live; pending = pending; count = c.count; refusal = refusal }; end = at } }
+// A word that has no line: an upper half, or a word that is refused.
+fn quiet(c: Course, pending: Pending, refusal: Option<Refusal>, at: usize) -> Printed<Course>
+    ensures { result ≡ record { run = record { live = c.live; pending = pending; count = c.count; refusal = refusal }; end = at } }
 {
     let live = c.live;
     Printed {
-        course: Course {
+        run: Course {
             live,
             pending,
             count: c.count,
@@ -242,85 +225,86 @@ fn quiet(c: Course, pending: Pending, refusal: u8, at: usize) -> Printed
 }
 
 // One word of the log, its line put at `at`.
-fn take(t: &mut [i32; 104], c: Course, w: u32, out: &mut [u8], at: usize) -> Printed
+fn take(t: &mut [i32; 104], c: Course, w: u32, out: &mut [u8], at: usize) -> Printed<Course>
     requires { Ready (progress_of t.old c) × (at + longest ≤ length out.old) }
-    ensures is { progress_of t.new result.course ≡ word_fed (progress_of t.old c) w }
+    ensures is { progress_of t.new result.run ≡ word_fed (progress_of t.old c) w }
     ensures text { Put out.old at (word_text (progress_of t.old c) w) result.end out.new }
-    ensures ready { Ready (progress_of t.new result.course) }
+    ensures ready { Ready (progress_of t.new result.run) }
 {
-    if c.refusal != 0 {
-        return Printed { course: c, end: at };
+    if c.refusal.is_some() {
+        return Printed { run: c, end: at };
     }
-    let pending = c.pending;
-    let s = events::take(pending, w);
-    let kept = s.pending;
-    let taken = s.taken;
-    match taken {
-        Taken::Happened(e) => event(t, c, kept, e, out, at),
-        Taken::Nothing => quiet(c, kept, 0, at),
-        Taken::Refused(n) => quiet(c, kept, n, at),
+    let s = events::take(c.pending, w);
+    match s.taken {
+        Ok(Some(e)) => event(t, c, s.pending, e, out, at),
+        Ok(None) => quiet(c, s.pending, None, at),
+        Err(refusal) => quiet(c, s.pending, Some(refusal), at),
     }
 }
 
 // The whole words of a piece of the log, their lines put at the start of the buffer.
-fn words(t: &mut [i32; 104], c: Course, bytes: &[u8], out: &mut [u8]) -> Printed
+fn words(t: &mut [i32; 104], c: Course, bytes: &[u8], out: &mut [u8]) -> Printed<Course>
     requires { Ready (progress_of t.old c) × (32 * length bytes.now ≤ length out.old) }
-    ensures is { progress_of t.new result.course ≡ words_fed (progress_of t.old c) (words_in bytes.now) }
+    ensures is { progress_of t.new result.run ≡ words_fed (progress_of t.old c) (words_in bytes.now) }
     ensures text { Put out.old 0 (words_text (progress_of t.old c) (words_in bytes.now)) result.end out.new }
-    ensures ready { Ready (progress_of t.new result.course) }
+    ensures ready { Ready (progress_of t.new result.run) }
     ensures within { result.end ≤ length out.new }
 {
     let mut course = c;
     let mut end: usize = 0;
-    let mut i: usize = 0;
-    while i + 4 <= bytes.len() {
-        let w = events::word_at(bytes[i], bytes[i + 1], bytes[i + 2], bytes[i + 3]);
+    for word in bytes.chunks_exact(4) {
+        let w = events::word_at(word[0], word[1], word[2], word[3]);
         let r = take(t, course, w, out, end);
-        course = r.course;
+        course = r.run;
         end = r.end;
-        i += 4;
     }
-    Printed { course, end }
+    Printed { run: course, end }
 }
 
 // The whole words of a piece of the log, from the run so far.
-fn feed(p: Progress, bytes: &[u8], out: &mut [u8]) -> Fed
+fn feed(p: Progress, bytes: &[u8], out: &mut [u8]) -> Printed<Progress>
     requires { Ready p × (32 * length bytes.now ≤ length out.old) }
-    ensures is { result.progress ≡ words_fed p (words_in bytes.now) }
+    ensures is { result.run ≡ words_fed p (words_in bytes.now) }
     ensures text { Put out.old 0 (words_text p (words_in bytes.now)) result.end out.new }
-    ensures ready { Ready result.progress }
+    ensures ready { Ready result.run }
     ensures within { result.end ≤ length out.new }
 {
     let s = p.state;
     let mut table = s.table;
     let r = words(&mut table, course_of(p), bytes, out);
-    let c = r.course;
-    let end = r.end;
-    Fed {
-        progress: progress_of(table, c),
-        end,
+    Printed {
+        run: progress_of(table, r.run),
+        end: r.end,
     }
 }
 
-// The number that ends the run, with the bytes left over behind the last whole word.
-fn number_at_end(p: Progress, left_over: usize) -> u8
+// How the run ends, with the bytes left over behind the last whole word.
+fn finished(p: Progress, left_over: usize) -> Result<(), Refusal>
     ensures { result ≡ finished_of p left_over }
 {
-    let refusal = p.refusal;
-    if refusal != 0 {
-        return refusal;
+    match p.refusal {
+        Some(refusal) => Err(refusal),
+        None => events::end(p.pending, left_over),
     }
-    let pending = p.pending;
-    events::end(pending, left_over)
+}
+
+// The number of an end, 0 where it is no refusal.
+fn number_of(end: Result<(), Refusal>) -> u8
+    ensures { result ≡ end_number end }
+{
+    match end {
+        Ok(()) => 0,
+        Err(refusal) => refusal.number(),
+    }
 }
 
 // The last line.
 pub fn finish(p: Progress, left_over: usize, out: &mut [u8], at: usize) -> usize
     requires { at + longest ≤ length out.old }
-    ensures text { Put out.old at (end_line (finished_of p left_over)) result out.new }
+    ensures text { Put out.old at (end_line (end_number (finished_of p left_over))) result out.new }
     ensures within { result ≤ length out.new }
 {
-    lines::end_line(out, at, number_at_end(p, left_over))
+    lines::end_line(out, at, number_of(finished(p, left_over)))
 }
 
 // A piece of the log, read into a room of `full` bytes: the lines of its whole words, and the last line where the run ends in it, by a
@@ -334,9 +318,9 @@ pub fn run_piece(p: Progress, bytes: &[u8], full: usize, out: &mut [u8]) -> Piec
     ensures within { result.end ≤ length out.new }
 {
     let f = feed(p, bytes, out);
-    let next = f.progress;
+    let next = f.run;
     let end = f.end;
-    if (next.refusal == 0) & (full <= bytes.len()) {
+    if next.refusal.is_none() & (full <= bytes.len()) {
         return Piece {
             progress: next,
             end,

@@ -2,7 +2,6 @@
 // Uses `logrun` for all that is printed, and `ports` to read and write.
 #![tactic(auto)]
 
-ghost use Rattle.std.specs.Prelude.{◌≡◌, length};
 ghost use Rattle.logrun.specs.Progress.{Ready};
 
 use logrun::Progress;
@@ -11,29 +10,17 @@ use std::io::{Read, Write};
 // The bytes of a piece of the log, whole words.
 const PIECE: usize = 8192;
 
-// Room for what a piece prints: 32 bytes a byte, and the last line of 128.
-fn output_room() -> [u8; 262272]
-    ensures { 262272 ≡ length result }
-{
-    [0; 262272]
-}
+// The bytes that a piece prints at most: 32 a byte, and the last line of 128.
+const PRINTED: usize = 262272;
 
-// Room for a piece.
-fn input_room() -> [u8; 8192]
-    ensures { 8192 ≡ length result }
-{
-    [0; 8192]
-}
-
-// Runs the log to its end, a piece a turn. The turns are counted down from a number that no log uses up.
+// Runs the log to its end, a piece a turn. There are more turns than any log uses up.
 fn run<R: Read, W: Write>(p: Progress, reader: &mut R, writer: &mut W)
     requires { Ready p }
 {
     let mut q = p;
-    let mut input = input_room();
-    let mut output = output_room();
-    let mut turns = u64::MAX;
-    while turns > 0 {
+    let mut input = [0u8; PIECE];
+    let mut output = [0u8; PRINTED];
+    'pieces: for _ in 0..u64::MAX {
         let n = ports::read_full(reader, &mut input);
         let r = logrun::run_piece(q, &input[..n], PIECE, &mut output);
         let end = r.end;
@@ -41,7 +28,6 @@ fn run<R: Read, W: Write>(p: Progress, reader: &mut R, writer: &mut W)
             return;
         }
         q = r.progress;
-        turns -= 1;
     }
 }
 

@@ -9,7 +9,6 @@ use Rattle.state.specs.State.{fresh_of}
 use Rattle.decimal.specs.Decimal.{text_of}
 use Rattle.events.specs.declared.Event.{Event}
 use Rattle.events.specs.declared.Event.TheVariants as Event
-use Rattle.events.specs.declared.Taken.TheVariants.{Happened}
 use Rattle.events.specs.Bytes.{words_in}
 use Rattle.integers.specs.TwosComplement.{bits_of}
 use Rattle.lines.specs.Lines.{line_with}
@@ -186,10 +185,10 @@ extremes_text x = (extremes_word ++ (space ∷ [])) ++ extremes_numbers x
 -- ---- the lines of `script`: `slot N V`, `start`, and events that the panel is stepped with directly
 
 abbrev pub after_event : Sheet → Event → Sheet
-after_event s e = with_run s (after_taken s.progress s.progress.pending (Happened e)) s.running
+after_event s e = with_run s (after_taken s.progress s.progress.pending (Ok (Some e))) s.running
 
 abbrev pub event_text : Sheet → Event → List ℕ
-event_text s e = text_taken s.progress (Happened e)
+event_text s e = text_taken s.progress (Ok (Some e))
 
 unfoldable pub after_plain : Sheet → Command → Sheet
 after_plain s Blank = s

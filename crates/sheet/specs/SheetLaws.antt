@@ -10,7 +10,6 @@ use Rattle.state.specs.State.{state_of}
 use Rattle.decimal.specs.DecimalLaws.{text-at-most-19}
 use Rattle.events.specs.declared.Event.{Event}
 use Rattle.events.specs.declared.Event.TheVariants as Event
-use Rattle.events.specs.declared.Taken.TheVariants.{Happened}
 use Rattle.events.specs.Bytes.{words_in}
 use Rattle.integers.specs.ChoiceLaws.{by-test}
 use Rattle.integers.specs.TwosComplement.{bits_of}
@@ -80,10 +79,10 @@ ready-plain s (Slot n z) r = r
 ready-plain s Start r = ready-start s
 ready-plain s Halves r = r
 ready-plain s Record r = r
-ready-plain s (Telegram w) r = taken-ready r s.progress.pending (Happened (Event.Telegram w))
+ready-plain s (Telegram w) r = taken-ready r s.progress.pending (Ok (Some (Event.Telegram w)))
 ready-plain s Burst r = r
-ready-plain s (Levels l) r = taken-ready r s.progress.pending (Happened (Event.Levels l))
-ready-plain s (Tick ms) r = taken-ready r s.progress.pending (Happened (Event.Tick ms))
+ready-plain s (Levels l) r = taken-ready r s.progress.pending (Ok (Some (Event.Levels l)))
+ready-plain s (Tick ms) r = taken-ready r s.progress.pending (Ok (Some (Event.Tick ms)))
 ready-plain s Frame r = r
 
 ready-word : (s : Sheet) (line : List ℕ) (w : Word) → Ready s.progress → Ready (after_word s line w).progress
@@ -169,10 +168,10 @@ plain-most s (Slot n z) = omega arith
 plain-most s Start = opening-most (loaded_by s)
 plain-most s Halves = omega arith
 plain-most s Record = omega arith
-plain-most s (Telegram w) = omega (arith, taken-at-most s.progress (Happened (Event.Telegram w)))
+plain-most s (Telegram w) = omega (arith, taken-at-most s.progress (Ok (Some (Event.Telegram w))))
 plain-most s Burst = omega arith
-plain-most s (Levels l) = omega (arith, taken-at-most s.progress (Happened (Event.Levels l)))
-plain-most s (Tick ms) = omega (arith, taken-at-most s.progress (Happened (Event.Tick ms)))
+plain-most s (Levels l) = omega (arith, taken-at-most s.progress (Ok (Some (Event.Levels l))))
+plain-most s (Tick ms) = omega (arith, taken-at-most s.progress (Ok (Some (Event.Tick ms))))
 plain-most s Frame = omega arith
 
 word-most : (s : Sheet) (line : List ℕ) (w : Word) → length line ≤ longest → length (word_text s line w) ≤ room
@@ -199,7 +198,7 @@ line-within s line e p h = put-within p room (rw e (line-at-most s line)) h
 -- ---- what the code makes of an event
 module _ (s : Sheet) (e : Event) where
   pub event-done : (t : List ℤ) (o : Outcome) → answer_by t o ≡ step_of s.progress.state e
-      → with_run s (record { state = state_of t o.live; pending = s.progress.pending; count = next_count s.progress.count; refusal = 0 }) s.running ≡ after_event s e
+      → with_run s (record { state = state_of t o.live; pending = s.progress.pending; count = next_count s.progress.count; refusal = None }) s.running ≡ after_event s e
   unfolding after_taken answer_of
   event-done t o k = rw (← k)
 

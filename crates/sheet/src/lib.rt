@@ -354,7 +354,7 @@ fn event(s: Sheet, e: Event, out: &mut [u8]) -> Said
         state: State { table, live },
         pending,
         count,
-        refusal: 0,
+        refusal: None,
     };
     let sheet = with_run(s, progress, s.running);
     Said { sheet, end }

@@ -1,4 +1,4 @@
--- `events::end` meets its contract: each test answers for one number.
+-- `events::end` meets its contract: each test answers for one refusal.
 use borrow.Author.Tests.{eq-eqb, ne_eqb}
 use Rattle.events.specs.Log.{end_of}
 use Rattle.events.proofs.end.Goals as goal
@@ -7,10 +7,10 @@ pub returns-then-left_over-ne0 : goal.returns-then-left_over-ne0
 unfolding end_of
 returns-then-left_over-ne0 c = rw (ne_eqb _ _ c.if-left_over-ne0.true)
 
-pub returns-then-p : goal.returns-then-p
+pub returns-in-Some : goal.returns-in-Some
 unfolding end_of
-returns-then-p c = rw (eq-eqb _ _ c.if-left_over-ne0.false, c.if-p.true)
+returns-in-Some c = rw (eq-eqb _ _ c.if-left_over-ne0.false, c.in-Some.is)
 
-pub returns : goal.returns
+pub returns-in-None : goal.returns-in-None
 unfolding end_of
-returns c = rw (eq-eqb _ _ c.if-left_over-ne0.false, c.if-p.false)
+returns-in-None c = rw (eq-eqb _ _ c.if-left_over-ne0.false, c.in-None.is)

@@ -1,4 +1,4 @@
--- `events::take` meets its contract: each test answers for one refusal, the reserved bits first.
+-- `events::take` meets its contract: the reserved bits are tested first.
 use mathlib.Core.Path.{sym, ◌∙◌}
 use Rattle.events.specs.Log.{taken_of}
 use Rattle.events.proofs.take.Goals as goal
@@ -7,18 +7,10 @@ pub returns-then-reserved_set : goal.returns-then-reserved_set
 unfolding taken_of
 returns-then-reserved_set c = rw (c.refuse.ensures, sym c.reserved_set.ensures ∙ c.if-reserved_set.true)
 
-pub returns-then-out_of_order : goal.returns-then-out_of_order
+pub returns-in-Some : goal.returns-in-Some
 unfolding taken_of
-returns-then-out_of_order c = rw (
-  c.refuse-then-out_of_order.ensures,
-  sym c.reserved_set.ensures ∙ c.if-reserved_set.false,
-  sym c.out_of_order.ensures ∙ c.if-out_of_order.true,
-)
+returns-in-Some c = rw (c.after_upper.ensures, sym c.reserved_set.ensures ∙ c.if-reserved_set.false, c.in-Some.is)
 
-pub returns : goal.returns
+pub returns-in-None : goal.returns-in-None
 unfolding taken_of
-returns c = rw (
-  c.accept.ensures,
-  sym c.reserved_set.ensures ∙ c.if-reserved_set.false,
-  sym c.out_of_order.ensures ∙ c.if-out_of_order.false,
-)
+returns-in-None c = rw (c.elsewhere.ensures, sym c.reserved_set.ensures ∙ c.if-reserved_set.false, c.in-None.is)

@@ -1,5 +1,4 @@
 -- `logrun::event` meets its contract: the panel's step and its line are those of the definition.
-use borrow.Author.Rules.{rules}
 use native.Mathlib.Omega.{arith}
 use Rattle.panel.specs.Step.{answer_of}
 use Rattle.logrun.specs.Progress.{after_taken, text_taken}

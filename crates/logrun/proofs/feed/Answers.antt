@@ -1,5 +1,4 @@
 -- `logrun::feed` meets its contract: the words are run on a copy of the table, and the progress is put together again.
-use borrow.Author.Rules.{rules}
 use Rattle.logrun.proofs.feed.Goals as goal
 
 pub words-r-requires : goal.words-r-requires

@@ -2,7 +2,6 @@
 use mathlib.Core.Path.{sym, ◌∙◌}
 use native.Mathlib.Omega.{arith}
 use Rattle.logrun.specs.InputLaws.{not-104-words, short-input}
-use borrow.Author.Rules.{rules}
 use Rattle.logrun.proofs.load.Goals as goal
 
 pub returns-then-bytes-lt-TABLE_BYTES : goal.returns-then-bytes-lt-TABLE_BYTES

@@ -1,6 +1,6 @@
 -- `logrun::run_piece` meets its contract: the lines are those of `feed`, and where the run ends the last line is put behind them, for which there is room.
-use mathlib.Core.Path.{◌≡◌, sym}
-use mathlib.Core.Bool.{true, false}
+use mathlib.Core.Path.{◌≡◌, sym, ap}
+use mathlib.Core.Bool.{Bool, true, false, not}
 use native.Mathlib.Omega.{arith}
 use Prim.Native.Nat.{◌*◌}
 use lib.ListN.{length}
@@ -8,16 +8,19 @@ use Rattle.lines.specs.LineLaws.{longest}
 use Rattle.text.specs.PutLaws.{put-room, put_both}
 use Rattle.logrun.specs.Pieces.{goes_on}
 use Rattle.logrun.proofs.PieceLaws.{piece-goes, piece-ends, lines-at-most}
-use borrow.Author.Rules.{rules}
 use Rattle.logrun.proofs.run_piece.Goals as goal
 
-pub returns-then-next-full : goal.returns-then-next-full
+none-is : (some none : Bool) → some ≡ not none → not some ≡ none
+none-is some true e = ap not e
+none-is some false e = ap not e
+
+pub returns-then-is_none-full : goal.returns-then-is_none-full
 unfolding goes_on
-returns-then-next-full c = let start = c in
+returns-then-is_none-full c = let start = c in
     let f = c.feed-f.ensures in
     let p = start.args.p in
     let bytes = start.args.bytes.now in
-    let e : goes_on start.args.full p bytes ≡ true = rw (← f.is) c.if-next-full.true in
+    let e : goes_on start.args.full p bytes ≡ true = rw (← f.is, none-is _ _ c.is_none.ensures) c.if-is_none-full.true in
     record {
       is = f.is;
       goes = sym e;
@@ -38,7 +41,7 @@ returns c = let start = c in
     let f = c.feed-f.ensures in
     let p = start.args.p in
     let bytes = start.args.bytes.now in
-    let e : goes_on start.args.full p bytes ≡ false = rw (← f.is) c.if-next-full.false in
+    let e : goes_on start.args.full p bytes ≡ false = rw (← f.is, none-is _ _ c.is_none.ensures) c.if-is_none-full.false in
     let last = rw f.is at c.finish-last.ensures.text in
     let put = put_both f.text last (omega (arith, lines-at-most p bytes, start.requires.1)) in
     record {

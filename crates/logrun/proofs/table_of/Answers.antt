@@ -1,10 +1,13 @@
--- `logrun::table_of` meets its contract. The invariant: the k words stored and the words left are the table. The measure is what is left of the 104.
-use mathlib.Core.Path.{◌≡◌, refl, sym, ◌∙◌}
-use mathlib.Core.List.{◌++◌, map}
-use Prim.Native.Nat.{◌-◌, ◌*◌, ◌≤◌}
+-- `logrun::table_of` meets its contract. The invariant: the words stored and those of the chunks left are the table.
+use mathlib.Core.Path.{◌≡◌, refl, sym, ap, ◌∙◌}
+use mathlib.Core.List.{List, ◌++◌, map}
+use Prim.Native.Nat.{◌+◌, ◌<◌}
 use native.Mathlib.Omega.{arith}
-use lib.ListN.{length, take, drop, length-set}
+use lib.IntN.{ℤ}
+use lib.ListN.{length, take, length-append, length-set}
+use lib.Seq.{length-take-le}
 use mir.Syntax.{w32}
+use Rattle.std.specs.Slice.Iter.{chunks_exact_rest}
 use Rattle.integers.specs.IntLaws.{bk, back_at}
 use Rattle.events.specs.Bytes.{words_in}
 use Rattle.integers.specs.TwosComplement.{signed_of}
@@ -13,62 +16,41 @@ use Rattle.logrun.proofs.Pieces.{table_more, table_done}
 use Rattle.logrun.proofs.table_of.Goals as goal
 
 pub loop-k-init : goal.loop-k-init
-loop-k-init c = (omega arith, refl, refl)
-
-pub overflow_mul-i : goal.overflow_mul-i
-overflow_mul-i c = omega arith
-
-pub bounds-bytes-i : goal.bounds-bytes-i
-bounds-bytes-i c = omega arith
-
-pub overflow_add-i : goal.overflow_add-i
-overflow_add-i c = omega arith
-
-pub bounds-bytes-i-in-loop-k : goal.bounds-bytes-i-in-loop-k
-bounds-bytes-i-in-loop-k c = omega arith
-
-pub overflow_add-i-in-loop-k : goal.overflow_add-i-in-loop-k
-overflow_add-i-in-loop-k c = omega arith
-
-pub bounds-bytes-i-in-loop-k-2 : goal.bounds-bytes-i-in-loop-k-2
-bounds-bytes-i-in-loop-k-2 c = omega arith
-
-pub overflow_add-i-in-loop-k-2 : goal.overflow_add-i-in-loop-k-2
-overflow_add-i-in-loop-k-2 c = omega arith
-
-pub bounds-bytes-i-in-loop-k-3 : goal.bounds-bytes-i-in-loop-k-3
-bounds-bytes-i-in-loop-k-3 c = omega arith
-
-pub word_at-requires : goal.word_at-requires
-word_at-requires c = tt
-
-pub signed-requires : goal.signed-requires
-signed-requires c = tt
-
-pub offset_bounds-t-k : goal.offset_bounds-t-k
-offset_bounds-t-k c = omega arith
-
-pub bounds-t-k : goal.bounds-t-k
-bounds-t-k c = omega arith
-
-pub overflow_add-k : goal.overflow_add-k
-overflow_add-k c = omega arith
-
-pub loop-k-smaller : goal.loop-k-smaller
-loop-k-smaller c = omega arith
+loop-k-init c =
+    let into = c.into_iter-k-iterator.ensures.into_iter_gives in
+    let made = c.enumerate-k-items.ensures in
+    let chunks = c.chunks_exact.ensures in (
+      refl,
+      rw (into, made.source) chunks.size,
+      rw (into, made.source, made.count, chunks.rest) (omega (arith, length-take-le 416 c.args.bytes.now c.requires)),
+      rw (into, made.source, made.count, chunks.rest) refl,
+    )
 
 pub loop-k-preserved : goal.loop-k-preserved
-loop-k-preserved c = let l = c.loop-k in
-    let bytes = c.args.bytes.now in
-    let w = c.word_at in
+loop-k-preserved c =
+    let s = c.in-Some.ensures.steps in
+    let inv = c.loop-k.invariant in
+    let rest = chunks_exact_rest c.loop-k.k-iterator.iter in
+    let more = chunks_exact_rest c.next.new.self.iter in
+    let all : List ℤ = map signed_of (words_in (take table_bytes c.args.bytes.now)) in
     let z = c.signed.result in
+    let four : length c.in-Some.word.now ≡ 4 = s.0.1.1 ∙ inv.1 in
+    let parted : length rest ≡ 4 + length more = ap length s.0.1.0 ∙ rw (length-append, four) in
+    let k : c.in-Some.k < length c.loop-k.t = omega (arith, s.1, inv.0, inv.2, parted) in
+    let words : all ≡ take c.in-Some.k c.loop-k.t ++ map signed_of (words_in rest) = inv.3 ∙ rw s.1 in
     let e = back_at w32 z c.signed.type_inv ∙ c.signed.ensures in (
-      omega arith,
-      length-set l.t l.k (bk w32 z) ∙ l.invariant.1,
-      l.invariant.2 ∙ table_more bytes l.t l.k w.result (bk w32 z) (omega arith) l.invariant.1 (omega arith) w.ensures e,
+      length-set c.loop-k.t c.in-Some.k (bk w32 z) ∙ inv.0,
+      s.0.0 ∙ inv.1,
+      omega (arith, s.1, s.2, inv.2, parted),
+      table_more all c.loop-k.t rest c.in-Some.word.now more c.in-Some.k c.word_at.result (bk w32 z) words k s.0.1.0 four c.word_at.ensures e
+          ∙ rw (s.1, s.2),
     )
 
 pub returns : goal.returns
 unfolding table_of
-returns c = let l = c.loop-k in
-    sym (l.invariant.2 ∙ table_done c.args.bytes.now l.t l.k (omega arith) l.invariant.1)
+returns c =
+    let s = c.in-None.ensures.steps in
+    let inv = c.loop-k.invariant in
+    let rest = chunks_exact_rest c.loop-k.k-iterator.iter in
+    let short : length rest < 4 = rw inv.1 at s.0.1.0 in
+    sym (inv.3 ∙ table_done c.loop-k.t c.loop-k.k-iterator.count rest (omega (arith, inv.2, short)) inv.0 short)

@@ -1,13 +1,22 @@
 -- `events::parts::reserved_set` meets its contract: the kind says which bits are reserved.
-use borrow.Author.Tests.{eq-eqb, ne_eqb}
-use mathlib.Core.Path.{sym, ◌∙◌}
-use Rattle.events.specs.Words.{reserved_set}
+use mathlib.Core.Path.{◌≡◌, refl, sym, ap, ◌∙◌}
+use mathlib.Core.Bool.{false}
+use lib.Dec.{eqb}
+use Rattle.events.specs.declared.parts.Kind.{Kind}
+use Rattle.events.specs.declared.parts.Kind.TheVariants.{Tick, Levels, Upper, Lower}
+use Rattle.events.specs.Words.{kind_number, reserved_set}
 use Rattle.events.proofs.parts.reserved_set.Goals as goal
 
-pub returns-then-kind-eq1 : goal.returns-then-kind-eq1
-unfolding reserved_set
-returns-then-kind-eq1 c = rw (c.bits.ensures, eq-eqb _ _ (sym c.kind.ensures ∙ c.if-kind-eq1.true))
+not-levels : (k : Kind) → (k ≡ Levels → ⊥) → eqb (kind_number k) 1 ≡ false
+not-levels Tick n = refl
+not-levels Levels n = absurd (n refl)
+not-levels Upper n = refl
+not-levels Lower n = refl
 
-pub returns : goal.returns
+pub returns-in-Levels : goal.returns-in-Levels
 unfolding reserved_set
-returns c = rw (c.bits-2.ensures, ne_eqb _ _ (λ e. c.if-kind-eq1.false (c.kind.ensures ∙ e)))
+returns-in-Levels c = rw (c.bits.ensures, sym c.kind_of.ensures ∙ ap kind_number c.in-Levels.is)
+
+pub returns-in_default : goal.returns-in_default
+unfolding reserved_set
+returns-in_default c = rw (c.bits-in_default.ensures, sym c.kind_of.ensures, not-levels c.kind_of.result c.in_default.not-Levels)
