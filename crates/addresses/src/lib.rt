@@ -43,6 +43,7 @@ impl Addresses {
     {
         let i = usize::from(a / 64);
         let w = self.words[i];
+        // Kept: `&= !mask` is no plainer here, since the definition `excluding` would have to say what `!` is of 64 bits.
         self.words[i] = w ^ (w & (1 << (a % 64)));
     }
 
@@ -50,9 +51,11 @@ impl Addresses {
     pub fn is_empty(&self) -> bool
         ensures { result ≡ is_empty self.now }
     {
+        // Kept: one test of the words joined, as the definition `is_empty` says; `self.words == [0; 4]` says no more in code.
         ((self.words[0] | self.words[1]) | (self.words[2] | self.words[3])) == 0
     }
 
+    // Kept: `above` is a u64, since no caller may be asked for less than before.
     // The lowest address of the set above one: word by word, by the zeros below a word's lowest bit.
     pub fn lowest_above(&self, above: u64) -> Option<u8>
         ensures { result ≡ lowest_above (holds self.now) above }

@@ -1,10 +1,12 @@
 -- The ways through a registration and a report, each by what its tests say.
-use Rattle.std.specs.Prelude.{◌≡◌, Bool, true, false, ℕ, ◌≤◌, ◌<◌, ltb}
+use Rattle.std.specs.Prelude.{◌≡◌, refl, Bool, true, false, cond, ℕ, ◌≤◌, ◌<◌, ltb, Result, Ok, Err}
+use Rattle.std.proofs.Common.{arith}
 use borrow.Author.Tests.{ltb-false, le-ltb, le-leb, lt-leb}
 use Rattle.integers.specs.TestLaws.{or-both}
 use Rattle.dispatcher.specs.declared.Dispatcher.{Dispatcher}
+use Rattle.dispatcher.specs.declared.Refusal.{Refusal}
 use Rattle.dispatcher.specs.declared.Refusal.TheVariants.{TooMany, Present, NoPanel}
-use Rattle.dispatcher.specs.Dispatch.{outside, present, panels, with_panel, with_report, refused, taken, register_of, report_of}
+use Rattle.dispatcher.specs.Dispatch.{outside, address_of, present, panels, with_panel, with_report, refused, taken, register_of, report_of}
 
 -- ---- 1 to 247
 
@@ -14,6 +16,21 @@ module _ (a : ℕ) where
 
   pub in-range : outside a ≡ false → (1 ≤ a) × (a ≤ 247)
   in-range e = let n = or-both (ltb a 1) (ltb 247 a) e in (ltb-false a 1 n.0, ltb-false 247 a n.1)
+
+  -- the address of a panel, or none
+  pub address-err : (e : Refusal) → address_of a ≡ Err e → (outside a ≡ true) × (e ≡ NoPanel)
+  address-err e h = by_test (outside a) refl h
+    where
+      by_test : (o : Bool) → outside a ≡ o → cond {A = Result ℕ Refusal} o (Err NoPanel) (Ok a) ≡ Err e → (outside a ≡ true) × (e ≡ NoPanel)
+      by_test true t h = (t, cc)
+      by_test false t h = absurd (let z : ◌≡◌ {A = ℕ} 0 1 = cc in omega arith)
+
+  pub address-ok : (b : ℕ) → address_of a ≡ Ok b → (outside a ≡ false) × (b ≡ a)
+  address-ok b h = by_test (outside a) refl h
+    where
+      by_test : (o : Bool) → outside a ≡ o → cond {A = Result ℕ Refusal} o (Err NoPanel) (Ok a) ≡ Ok b → (outside a ≡ false) × (b ≡ a)
+      by_test true t h = absurd (let z : ◌≡◌ {A = ℕ} 0 1 = cc in omega arith)
+      by_test false t h = (t, cc)
 
 module _ (d : Dispatcher) (a : ℕ) where
   -- ---- a registration

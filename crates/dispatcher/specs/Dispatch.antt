@@ -58,6 +58,10 @@ present d a = member d.error a || member d.ordinary a
 abbrev pub outside : ℕ → Bool
 outside a = ltb a lowest_address || ltb highest_address a
 
+-- the address of a panel, where one may have it
+abbrev pub address_of : ℕ → Result ℕ Refusal
+address_of a = cond (outside a) (Err NoPanel) (Ok a)
+
 abbrev pub registered : Dispatcher → ℕ → Bool
 registered d a = not (outside a) && present d a
 

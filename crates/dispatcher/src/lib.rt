@@ -3,7 +3,7 @@
 #![tactic(auto)]
 
 ghost use Rattle.std.specs.Prelude.{◌≡◌};
-ghost use Rattle.dispatcher.specs.Dispatch.{fresh_of, group_of, next_of, kept_of, with_report, outside, present, panels, refusal_number, number_of, register_of, report_of, pick_of};
+ghost use Rattle.dispatcher.specs.Dispatch.{fresh_of, group_of, next_of, kept_of, with_report, address_of, present, panels, refusal_number, number_of, register_of, report_of, pick_of};
 
 use addresses::Addresses;
 
@@ -84,11 +84,14 @@ pub fn fresh() -> Dispatcher
     }
 }
 
-// Whether no panel may have an address.
-fn is_outside(address: u32) -> bool
-    ensures { result ≡ outside address }
+// The address of a panel, where one may have it.
+fn address_of(address: u32) -> Result<u8, Refusal>
+    ensures { result ≡ address_of address }
 {
-    address < LOWEST || HIGHEST < address
+    if address < LOWEST || HIGHEST < address {
+        return Err(Refusal::NoPanel);
+    }
+    Ok(address as u8)
 }
 
 impl Group {
@@ -163,10 +166,7 @@ impl Dispatcher {
     pub fn register(&mut self, address: u32) -> Result<(), Refusal>
         ensures { (self.new, result) ≡ register_of self.old address }
     {
-        if is_outside(address) {
-            return Err(Refusal::NoPanel);
-        }
-        let a = address as u8;
+        let a = address_of(address)?;
         if self.is_present(a) {
             return Err(Refusal::Present);
         }
@@ -181,10 +181,7 @@ impl Dispatcher {
     pub fn report(&mut self, address: u32, error: bool) -> Result<(), Refusal>
         ensures { (self.new, result) ≡ report_of self.old address error }
     {
-        if is_outside(address) {
-            return Err(Refusal::NoPanel);
-        }
-        let a = address as u8;
+        let a = address_of(address)?;
         if !self.is_present(a) {
             return Err(Refusal::NoPanel);
         }

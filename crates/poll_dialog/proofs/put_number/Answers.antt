@@ -4,5 +4,4 @@ use Rattle.text.specs.PutLaws.{put_both}
 use Rattle.poll_dialog.proofs.put_number.Goals as goal
 
 pub returns : goal.returns
-returns c = let n = c in
-    put_both n.put_bytes-at.ensures n.put_natural.ensures (omega arith)
+returns c = put_both c.put_bytes-at.ensures (rw c.from.ensures at c.put_natural.ensures) (omega arith)
