@@ -13,9 +13,6 @@ use Rattle.integers.specs.TwosComplement.{bits_of}
 use Rattle.text.specs.Hex.{is_hex, hex_of}
 use Rattle.text.specs.Put.{Put}
 use Rattle.text.specs.PutLaws.{put-start, put-none, put_both, put_front, put-length}
-use Rattle.text.specs.WordSteps.{word_of, rest_of}
-use Rattle.text.specs.WordLaws.{no_word, some_word}
-use Rattle.text.specs.Words.{words_of}
 use Rattle.sheet.specs.LogWords.{most_words, is_log}
 
 -- a table's words
@@ -37,44 +34,42 @@ pub log-fits : (ws : List (List ℕ)) → is_log ws ≡ true → length (bytes_o
 unfolding is_log are_hex
 log-fits ws e = omega (arith, bytes-length (hexes_of ws), hexes-length ws, leb-true (length ws) most_words (both_true (leb (length ws) most_words) (all_hex_words 1 8 ws) e).0)
 
--- a log's words: those that are put, and those that are left of the text
-pub record Left (s : List ℕ) (out₀ out : List ℕ) (p : ℕ) (t : List ℕ) : Type 0 where
-  pub space : p + 4 * length (words_of t) ≤ 400
-  pub words : all_hex_words 1 8 (words_of t) ≡ true
+-- the words of a log `all`: those that are put, and those that are left, ws
+pub record Left (all : List (List ℕ)) (out₀ out : List ℕ) (p : ℕ) (ws : List (List ℕ)) : Type 0 where
+  pub space : p + 4 * length ws ≤ 400
+  pub words : all_hex_words 1 8 ws ≡ true
   pub size : length out ≡ length out₀
   pub text : Put out₀ 0 (take p out) p out
-  pub joined : take p out ++ bytes_of (hexes_of (words_of t)) ≡ bytes_of (hexes_of (words_of s))
+  pub joined : take p out ++ bytes_of (hexes_of ws) ≡ bytes_of (hexes_of all)
 
-pub left-all : (s out : List ℕ) → is_log (words_of s) ≡ true → Left s out out 0 s
+pub left-all : (ws : List (List ℕ)) (out : List ℕ) → is_log ws ≡ true → Left ws out out 0 ws
 unfolding is_log are_hex
-left-all s out e =
-    let b = both_true (leb (length (words_of s)) most_words) (all_hex_words 1 8 (words_of s)) e in
-    record { space = omega (arith, leb-true (length (words_of s)) most_words b.0); words = b.1; size = refl; text = put-none out 0; joined = refl }
+left-all ws out e =
+    let b = both_true (leb (length ws) most_words) (all_hex_words 1 8 ws) e in
+    record { space = omega (arith, leb-true (length ws) most_words b.0); words = b.1; size = refl; text = put-none out 0; joined = refl }
 
-module _ (s out₀ out : List ℕ) (p : ℕ) (t : List ℕ) (l : Left s out₀ out p t) (roomy : 400 ≤ length out₀) where
-  pub left-none : length (word_of t) ≡ 0 → Put out₀ 0 (bytes_of (hexes_of (words_of s))) p out
-  unfolding hexes_of bytes_of
-  left-none e = rw (← (rw (no_word t e, append-nil) at l.joined)) l.text
+pub left-none : (all : List (List ℕ)) (out₀ out : List ℕ) (p : ℕ) → Left all out₀ out p [] → Put out₀ 0 (bytes_of (hexes_of all)) p out
+unfolding hexes_of bytes_of
+left-none all out₀ out p l = rw (← (rw append-nil at l.joined)) l.text
 
-  module _ (h : 0 < length (word_of t)) where
-    pub left-hex : is_hex 1 8 (word_of t) ≡ true
-    unfolding all_hex_words
-    left-hex = (both_true (is_hex 1 8 (word_of t)) (all_hex_words 1 8 (words_of (rest_of t))) (rw (some_word t h) at l.words)).0
+module _ (all : List (List ℕ)) (out₀ out : List ℕ) (p : ℕ) (w : List ℕ) (ws : List (List ℕ)) (l : Left all out₀ out p (w ∷ ws)) (roomy : 400 ≤ length out₀) where
+  pub left-hex : is_hex 1 8 w ≡ true
+  unfolding all_hex_words
+  left-hex = (both_true (is_hex 1 8 w) (all_hex_words 1 8 ws) l.words).0
 
-    pub left-room : p + 4 ≤ length out
-    left-room = omega (arith, l.size, rw (some_word t h) at l.space)
+  pub left-room : p + 4 ≤ length out
+  left-room = omega (arith, l.size, l.space)
 
-    pub left-next : {end : ℕ} {after : List ℕ} → Put out p (least_first (hex_of (word_of t))) end after → Left s out₀ after end (rest_of t)
-    unfolding all_hex_words hexes_of bytes_of
-    left-next {end} {after} put =
-        let w = some_word t h in
-        let room = left-room in
-        let front : take end after ≡ take p out ++ least_first (hex_of (word_of t)) = put_front put room in
-        let fits : 0 + length (take p out) ≤ length out₀ = omega (arith, l.size, length-take-le p out (omega arith)) in
-        record {
-          space = omega (arith, put.ends, rw w at l.space);
-          words = (both_true (is_hex 1 8 (word_of t)) (all_hex_words 1 8 (words_of (rest_of t))) (rw w at l.words)).1;
-          size = put-length put room ∙ l.size;
-          text = rw front (put_both l.text put fits);
-          joined = rw (front, append_assoc) (rw w at l.joined);
-        }
+  pub left-next : {end : ℕ} {after : List ℕ} → Put out p (least_first (hex_of w)) end after → Left all out₀ after end ws
+  unfolding all_hex_words hexes_of bytes_of
+  left-next {end} {after} put =
+      let room = left-room in
+      let front : take end after ≡ take p out ++ least_first (hex_of w) = put_front put room in
+      let fits : 0 + length (take p out) ≤ length out₀ = omega (arith, l.size, length-take-le p out (omega arith)) in
+      record {
+        space = omega (arith, put.ends, l.space);
+        words = (both_true (is_hex 1 8 w) (all_hex_words 1 8 ws) l.words).1;
+        size = put-length put room ∙ l.size;
+        text = rw front (put_both l.text put fits);
+        joined = rw (front, append_assoc) l.joined;
+      }

@@ -8,7 +8,8 @@ ghost use Rattle.events.specs.Bytes.{least_first, bytes_of};
 ghost use Rattle.sheet.specs.LogWords.{is_log};
 
 use integers::twos_complement;
-use text::{hex, words};
+use text::hex;
+use text::words::Words;
 
 // Puts a word as four bytes.
 fn put_word(out: &mut [u8], at: usize, w: u32) -> usize
@@ -25,10 +26,8 @@ pub fn put_table(out: &mut [u8], t: &[i32]) -> usize
     ensures { Put out.old 0 (bytes_of (map bits_of t.now)) result out.new }
 {
     let mut p: usize = 0;
-    let mut k: usize = 0;
-    while k < 104 {
-        p = put_word(out, p, twos_complement::bits(t[k]));
-        k += 1;
+    for z in t {
+        p = put_word(out, p, twos_complement::bits(*z));
     }
     p
 }
@@ -45,16 +44,9 @@ pub fn put_log(out: &mut [u8], s: &[u8]) -> usize
     requires { (400 ≤ length out.old) × (is_log (words_of s.now) ≡ true) }
     ensures { Put out.old 0 (bytes_of (hexes_of (words_of s.now))) result out.new }
 {
-    let mut t = s;
     let mut p: usize = 0;
-    loop {
-        let w = words::word(t);
-        if w.len() == 0 {
-            return p;
-        }
+    for w in (Words { text: s }) {
         p = put_word(out, p, hex::value(w));
-        let r = words::rest(t);
-        let k = t.len() - r.len();
-        t = &t[k..];
     }
+    p
 }

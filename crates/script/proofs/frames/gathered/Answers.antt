@@ -1,52 +1,22 @@
--- `script::frames::gathered` meets its contract. The invariant is `Left`: the bytes stored so far and the words that are left. The measure is what is left of the text.
-use mathlib.Core.Path.{sym, ap, ◌∙◌}
-use native.Mathlib.Omega.{arith}
-use lib.ListN.{length}
+-- `script::frames::gathered` meets its contract: each turn stores the number that one word is, and the words behind it are left.
+use mathlib.Core.Path.{◌≡◌, ap}
+use mathlib.Core.List.{List, []}
+use Prim.Native.Nat.{ℕ}
+use Rattle.text.specs.Words.{words_of}
 use Rattle.script.specs.Commands.{is_frame}
-use Rattle.script.proofs.GatherLaws.{left-all, left-hex, left-room, left-next}
+use Rattle.script.proofs.GatherLaws.{left-all, left-hex, left-next}
 use Rattle.script.proofs.FrameLaws.{bytes_packed}
-use Rattle.text.specs.WordLaws.{rest-within, rest-shorter, go_on}
 use Rattle.script.proofs.frames.gathered.Goals as goal
 
-pub loop-t-init : goal.loop-t-init
+pub loop-w-init : goal.loop-w-init
 unfolding is_frame
-loop-t-init c = left-all _ _ _ _ c.requires
-
-pub returns-then-w-eq0 : goal.returns-then-w-eq0
-returns-then-w-eq0 c = let l = c.loop-t in
-    bytes_packed _ l.n l.bytes l.t.now l.invariant (sym (ap length c.word-w.ensures) ∙ c.if-w-eq0.true)
+loop-w-init c = (tt, tt, rw (ap (λ x. words_of x.text.now) c.into_iter-w-iterator.ensures.into_iter_gives) (left-all _ _ _ _ c.requires))
 
 pub byte-requires : goal.byte-requires
-byte-requires c = let l = c.loop-t in
-    let w = c.if-w-eq0.false in
-    rw c.word-w.ensures (left-hex _ _ _ _ l.n l.bytes l.t.now l.invariant (omega (arith, ap length c.word-w.ensures)))
+byte-requires c = left-hex _ _ _ _ _ _ _ _ (rw c.in-Some.ensures.steps at c.loop-w.invariant.2)
 
-pub bounds-bytes-n : goal.bounds-bytes-n
-bounds-bytes-n c = let l = c.loop-t in
-    let w = c.if-w-eq0.false in
-    left-room _ _ _ _ l.n l.bytes l.t.now l.invariant (omega (arith, ap length c.word-w.ensures))
+pub loop-w-preserved : goal.loop-w-preserved
+loop-w-preserved c = (tt, tt, rw c.byte.ensures (left-next _ _ _ _ _ _ _ _ (rw c.in-Some.ensures.steps at c.loop-w.invariant.2)))
 
-pub overflow_add-n : goal.overflow_add-n
-overflow_add-n c = omega (arith, bounds-bytes-n c)
-
-pub overflow_sub-k : goal.overflow_sub-k
-overflow_sub-k c = rw c.rest-r.ensures (rest-within c.loop-t.t.now)
-
-pub slice_bounds-t-count : goal.slice_bounds-t-count
-slice_bounds-t-count c = omega arith
-
-pub slice_bounds-t-start : goal.slice_bounds-t-start
-slice_bounds-t-start c = omega arith
-
-pub loop-t-smaller : goal.loop-t-smaller
-loop-t-smaller c = let l = c.loop-t in
-    let w = c.if-w-eq0.false in
-    rw (go_on l.t.now c.rest-r.result.now c.rest-r.ensures)
-    (rest-shorter l.t.now (omega (arith, ap length c.word-w.ensures)))
-
-pub loop-t-preserved : goal.loop-t-preserved
-loop-t-preserved c = let l = c.loop-t in
-    let w = c.if-w-eq0.false in
-    let f = c.word-w.ensures in
-    rw (go_on l.t.now c.rest-r.result.now c.rest-r.ensures, c.byte.ensures, f)
-    (left-next _ _ _ _ l.n l.bytes l.t.now l.invariant (omega (arith, ap length f)))
+pub returns : goal.returns
+returns c = bytes_packed _ _ _ (rw c.in-None.ensures.steps.0 at c.loop-w.invariant.2)

@@ -1,11 +1,9 @@
--- `script::frames::gathered` meets its contract. The invariant is `Left`: the bytes stored so far and the words that are left. The measure is what is left of the text.
-use lib.ListN.{length}
+-- `script::frames::gathered` meets its contract. The invariant is `Left`: what is stored so far and the words that are left.
+use Rattle.text.specs.Words.{words_of}
 use Rattle.script.specs.Commands.{most_bytes}
 use Rattle.script.proofs.GatherLaws.{Left}
 use Rattle.script.proofs.frames.gathered.Given as goal
 
-abbrev pub invariant-loop-t : goal.invariant-loop-t
-invariant-loop-t l = Left most_bytes 2 2 l.s l.n l.bytes l.t
-
-abbrev pub decreases-loop-t : goal.decreases-loop-t
-decreases-loop-t l = length l.t
+abbrev pub invariant-loop-w : goal.invariant-loop-w
+invariant-loop-w l =
+    (goal.iterator-loop-w).can_next l.w-iterator × (goal.iterator-loop-w).is_finite l.w-iterator × Left most_bytes 2 2 (words_of l.s) l.n l.bytes (words_of l.w-iterator.text.now)
