@@ -1,5 +1,5 @@
 -- `bench_frame::unsigned` is safe: what is not negative fits.
-use Rattle.std.proofs.Common.{arith}
+use Rattle.std.proofs.Common.{arith, rules}
 use Rattle.integers.specs.IntLaws.{ints, fit}
 use Rattle.bench_frame.proofs.unsigned.Goals as goal
 
