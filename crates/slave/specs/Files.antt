@@ -4,6 +4,7 @@
 use Rattle.std.specs.Prelude.{ℕ, Option, None, Some, List, ℤ}
 use Rattle.state.specs.declared.State.{State}
 use Rattle.events.specs.declared.Event.{Event}
+use Rattle.events.specs.declared.Event.TheVariants as Event
 use Rattle.framing.specs.declared.Collector.{Collector}
 use Rattle.framing.specs.Collector.{held}
 use Rattle.panel.specs.Step.{step_of}
