@@ -19,10 +19,7 @@ pub fn read_some<R: Read>(input: &mut R, buf: &mut [u8]) -> usize
     ensures prefix { result ≡ length (take result buf.new) }
     ensures bytes { Consumes (R.remaining input.old) (R.remaining input.new) (take result buf.new) }
 {
-    match input.read(buf) {
-        Ok(n) => n,
-        Err(_) => 0,
-    }
+    input.read(buf).unwrap_or(0)
 }
 
 // Reads until buf is full, the input ends or a read fails; says how many bytes it put at the start of buf. With no room it does not read.
@@ -47,13 +44,11 @@ fn write_some<W: Write>(output: &mut W, bytes: &[u8]) -> usize
     ensures bound { result ≤ length bytes.now }
     ensures bytes { Appends (W.contents output.old) (W.contents output.new) (take result bytes.now) }
 {
-    match output.write(bytes) {
-        Ok(n) => n,
-        Err(_) => 0,
-    }
+    output.write(bytes).unwrap_or(0)
 }
 
 // Writes all bytes and says `true`, or stops at the first write that takes none or fails, and says `false`. With no bytes it does not write.
+// Kept: std's `write_all` does not promise `front`, and goes on after a write that was broken off; and nobody asks why bytes did not go out.
 pub fn write_all<W: Write>(output: &mut W, bytes: &[u8]) -> bool
     ensures all { result ≡ true → Appends (W.contents output.old) (W.contents output.new) bytes.now }
     ensures front { WritesFront (W.contents output.old) (W.contents output.new) bytes.now }

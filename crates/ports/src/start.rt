@@ -14,24 +14,18 @@ const NO_TEXT: i32 = 84;
 const NUMBER_MARK: &[u8] = b" (os error ";
 
 // Puts argument i at the start of buf; says how many bytes it has, 0 where it is missing or longer than buf. Argument 0 is the program.
+// Kept: its callers take an argument that is missing or too long for an empty one, which a number says as it is.
 pub fn arg<E: Env>(env: &E, i: usize, buf: &mut [u8]) -> usize
     ensures bound { result ≤ length buf.new }
     ensures prefix { result ≡ length (take result buf.new) }
 {
-    match env.arg(i, buf) {
-        Ok(n) => n,
-        Err(_) => 0,
-    }
+    env.arg(i, buf).unwrap_or(0)
 }
 
 // Whether there is an argument i.
 pub fn has_arg<E: Env>(env: &E, i: usize) -> bool {
     let mut buf = [0u8; 1];
-    match env.arg(i, &mut buf) {
-        Ok(_) => true,
-        Err(FillError::TooLong) => true,
-        Err(FillError::NotPresent) => false,
-    }
+    !matches!(env.arg(i, &mut buf), Err(FillError::NotPresent))
 }
 
 // Opens a file for reading. A path that is not UTF-8 is none that can be opened.
@@ -58,12 +52,7 @@ pub fn write_failure<W: Write>(output: &mut W, what: &[u8], error: Error) {
 fn text_length(bytes: &[u8]) -> usize
     ensures { result ≤ length bytes.now }
 {
-    let mut i: usize = 0;
-    while i < bytes.len() {
-        if bytes[i] == 0 || bytes[i..].starts_with(NUMBER_MARK) {
-            break;
-        }
-        i += 1;
-    }
-    i
+    let end = bytes.iter().position(|b| *b == 0).unwrap_or(bytes.len());
+    let mut places = bytes[..end].windows(NUMBER_MARK.len());
+    places.position(|w| w == NUMBER_MARK).unwrap_or(end)
 }

@@ -1,7 +1,8 @@
 -- What was read before and what is read now are the front of the buffer.
 use Rattle.std.proofs.Common.{rules, subst}
 use Rattle.std.specs.Io.KnownBytes.{Consumes}
-use Rattle.ports.proofs.Known.{Consumes-trans, front_of_put}
+use Rattle.std.proofs.KnownBytes.{Consumes-trans}
+use Rattle.ports.proofs.Known.{front_of_put}
 use Rattle.ports.proofs.read_full.Goals as goal
 
 pub loop-done-preserved : goal.loop-done-preserved

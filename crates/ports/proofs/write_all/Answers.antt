@@ -1,7 +1,8 @@
 -- What was written before and what is written now are the front of the bytes.
 use Rattle.std.proofs.Common.{rules, subst}
 use Rattle.std.specs.Io.KnownBytes.{Appends}
-use Rattle.ports.proofs.Known.{Appends-trans, front_of_rest}
+use Rattle.std.proofs.KnownBytes.{Appends-trans}
+use Rattle.ports.proofs.Known.{front_of_rest}
 use Rattle.ports.proofs.write_all.Goals as goal
 
 pub loop-done-preserved : goal.loop-done-preserved
