@@ -55,8 +55,8 @@ impl Addresses {
         ((self.words[0] | self.words[1]) | (self.words[2] | self.words[3])) == 0
     }
 
-    // Kept: `above` is a u64, since no caller may be asked for less than before.
     // The lowest address of the set above one: word by word, by the zeros below a word's lowest bit.
+    // Kept: `above` is a u64, for callers that ask above any number.
     pub fn lowest_above(&self, above: u64) -> Option<u8>
         ensures { result ≡ lowest_above (holds self.now) above }
     {
