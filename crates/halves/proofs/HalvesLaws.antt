@@ -1,6 +1,6 @@
 -- The law of marks, proved: a reading without error and without the two marks is the other firmware's, by the law of halves of one rounding, twice; and so its code.
 -- Request K7. Assumes nothing.
-use Rattle.std.specs.Prelude.{◌≡◌, refl, Bool, true, false, List, ℕ, zero, suc, eqb, ℤ, pos, ◌+ℤ◌, ◌*ℤ◌}
+use Rattle.std.specs.Prelude.{◌≡◌, refl, Bool, false, List, ℕ, zero, suc, eqb, ℤ, pos, ◌+ℤ◌, ◌*ℤ◌}
 use Rattle.std.proofs.Common.{sym, ap, ◌∙◌, mod-eq_of_lt, arith, ne_eqb}
 use Rattle.std.proofs.Math.IntN.{+ℤ_invr, zero-*ℤ}
 use Rattle.analog.specs.AnalogCode.{fraction, full_scale, lowest, held, on_scale, code_of, code_half, coded_of}
