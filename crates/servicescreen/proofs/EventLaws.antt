@@ -1,6 +1,6 @@
 -- THE REQUEST IN ONE EQUATION holds of every state and event. Nothing of an event but a clear and its end touches the record, a clear leaves it empty wherever its input
 -- stands, and an empty record that is brought up to date is what the request says of a clear there (`cleared-there`). Paper 02, K6. Assumes nothing.
-use Rattle.std.specs.Prelude.{Option, is_none, ◌≡◌, refl, Bool, true, false, cond, ◌&&◌, ◌||◌, ℕ, eqb, leb}
+use Rattle.std.specs.Prelude.{Option, is_none, ◌≡◌, refl, Bool, true, false, cond, ◌&&◌, ◌||◌, ℕ, leb}
 use Rattle.std.proofs.Common.{ap, ◌∙◌}
 use Rattle.analog.specs.declared.Drive.{Drive}
 use Rattle.driverecord.specs.declared.DriveRecord.{DriveRecord}

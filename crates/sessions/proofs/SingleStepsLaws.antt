@@ -1,5 +1,5 @@
 -- A burst is its telegrams one by one: by induction over the list, behind any answer.
-use Rattle.std.specs.Prelude.{Option, Some, is_none, ◌≡◌, refl, Bool, true, false, ℕ, suc, ◌+◌, ◌<◌, ◌≤◌, eqb, leb, ℤ, length, get_or, take}
+use Rattle.std.specs.Prelude.{Option, Some, is_none, ◌≡◌, refl, Bool, true, false, ℕ, suc, ◌+◌, ◌<◌, ◌≤◌, leb, ℤ, length, get_or, take}
 use Rattle.std.proofs.Common.{sym, ◌∙◌, inl, add_assoc, leb-true, leb-false}
 use Rattle.std.proofs.Math.Path.{ap, subst}
 use Rattle.std.proofs.Math.Bool.{cond}

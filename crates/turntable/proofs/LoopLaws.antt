@@ -24,7 +24,6 @@ use Rattle.reading.specs.Reading.{accepts_of}
 use Rattle.runs.specs.KeptLaws.{Kept, kept_fresh, kept_step}
 use Rattle.runs.specs.Run.{answers_of, some_command, some_event}
 use Rattle.settings.specs.declared.Action.{Action}
-use Rattle.settings.specs.declared.Action.TheVariants as Action
 use Rattle.settings.specs.declared.Action.TheVariants.{Reset, Freeze, ClearLocks, ClearExtremes, Teach}
 use Rattle.settings.specs.Settings.{input_at}
 use Rattle.state.specs.declared.Refusal.{Refusal}
