@@ -16,6 +16,7 @@ use switching::Preselection;
 #[derive(Clone, Copy)]
 pub struct Span {
     // 0 is ±10 V, 1 is 0..20 mA, 2 is 4..20 mA.
+    // Kept: `analog::code` takes the number, and its parameter may not narrow.
     pub format: u32,
     // The results at which the code is 0 and at its full scale.
     pub start: i32,
