@@ -1,5 +1,5 @@
 -- The laws of a set of addresses: with an address and without it, every other stays; what a word and its lowest bit say of the search; and the empty set.
-use Rattle.std.specs.Prelude.{◌≡◌, refl, true, false, List, ◌⊎◌, ℕ, zero, suc, ◌+◌, ◌-◌, ◌*◌, ◌/◌, ◌%◌, ◌^◌, ◌≤◌, ◌<◌, max, min, length, get_or, set}
+use Rattle.std.specs.Prelude.{◌≡◌, true, false, List, ◌⊎◌, ℕ, None, Some, zero, suc, ◌+◌, ◌-◌, ◌*◌, ◌/◌, ◌%◌, ◌^◌, ◌≤◌, ◌<◌, max, min, length, get_or, set}
 use Rattle.std.proofs.Common.{sym, ◌∙◌, ap₂, inl, inr, one-mul, lit<, eqb→eq, shl_exact, get_or-set_same, get_or-set_other}
 use Rattle.std.proofs.Math.Path.{ap}
 use native.Mathlib.Omega.{arith}
@@ -13,9 +13,10 @@ use Rattle.integers.specs.ChoiceLaws.{either, is_false}
 use Rattle.integers.specs.TestLaws.{clash}
 use Rattle.bits.specs.Bits.{bit_at}
 use Rattle.bits.proofs.BitLaws.{two, bit-lt, bit-none, bit-and, bit-or, bit-xor, bit-shr, bit-power, bit-power-other, LowestBit, lowest-bit}
+use Rattle.addresses.specs.declared.Addresses.{Addresses}
 use Rattle.addresses.specs.Addresses.{word_at, holds, is_empty, including, excluding}
 use Rattle.addresses.specs.Search.{lowest_from, lowest_above}
-use Rattle.addresses.proofs.SearchLaws.{Lowest, lowest-is, lowest-found, lowest-past}
+use Rattle.addresses.proofs.SearchLaws.{by_found, Lowest, lowest-is, lowest-found, lowest-past}
 
 -- a bit that is 0 is not 1
 not-one : {b : ℕ} → b ≡ 0 → eqb b 1 ≡ false
@@ -61,93 +62,97 @@ clear-bit-other i k w n = left-bit i w (2 ^ k) 0 (bit-power-other i k n) ∙ by-
 
 -- ---- a set with an address, and without it
 
+-- the word that an address stands in, of the words
+abbrev word_in : List ℕ → ℕ → ℕ
+word_in ws a = get_or ws (a / 64) 0
+
 module _ (ws : List ℕ) (a : ℕ) (f : ℕ → ℕ) where
   -- the word of a made anew: at a
-  here : a / 64 < length ws → (v : ℕ) → bit_at (a % 64) (f (word_at ws a)) ≡ v → bit_at (a % 64) (word_at (set ws (a / 64) (f (word_at ws a))) a) ≡ v
-  here l v e = ap (bit_at (a % 64)) (get_or-set_same ws (a / 64) (f (word_at ws a)) 0 l) ∙ e
+  here : a / 64 < length ws → (v : ℕ) → bit_at (a % 64) (f (word_in ws a)) ≡ v → bit_at (a % 64) (word_in (set ws (a / 64) (f (word_in ws a))) a) ≡ v
+  here l v e = ap (bit_at (a % 64)) (get_or-set_same ws (a / 64) (f (word_in ws a)) 0 l) ∙ e
 
   -- and at another address, whose bit it keeps
   elsewhere : (x : ℕ) → (x ≡ a → ⊥) → ((i w : ℕ) → (i ≡ a % 64 → ⊥) → bit_at i (f w) ≡ bit_at i w) → a / 64 < length ws →
-      bit_at (x % 64) (word_at (set ws (a / 64) (f (word_at ws a))) x) ≡ bit_at (x % 64) (word_at ws x)
+      bit_at (x % 64) (word_in (set ws (a / 64) (f (word_in ws a))) x) ≡ bit_at (x % 64) (word_in ws x)
   elsewhere x n keeps l =
       either (eqb (x / 64) (a / 64))
       (λ same. let e = eqb→eq (x / 64) (a / 64) same in
       let m : x % 64 ≡ a % 64 → ⊥ = λ d. n (omega arith) in
-      ap (λ (i : ℕ). bit_at (x % 64) (get_or (set ws (a / 64) (f (word_at ws a))) i 0)) e
-      ∙ ap (bit_at (x % 64)) (get_or-set_same ws (a / 64) (f (word_at ws a)) 0 l)
-      ∙ keeps (x % 64) (word_at ws a) m
+      ap (λ (i : ℕ). bit_at (x % 64) (get_or (set ws (a / 64) (f (word_in ws a))) i 0)) e
+      ∙ ap (bit_at (x % 64)) (get_or-set_same ws (a / 64) (f (word_in ws a)) 0 l)
+      ∙ keeps (x % 64) (word_in ws a) m
       ∙ ap (λ (i : ℕ). bit_at (x % 64) (get_or ws i 0)) (sym e))
-      (λ other. ap (bit_at (x % 64)) (get_or-set_other ws (a / 64) (x / 64) (f (word_at ws a)) 0 (eqb-false (x / 64) (a / 64) (is_false (eqb (x / 64) (a / 64)) other))))
+      (λ other. ap (bit_at (x % 64)) (get_or-set_other ws (a / 64) (x / 64) (f (word_in ws a)) 0 (eqb-false (x / 64) (a / 64) (is_false (eqb (x / 64) (a / 64)) other))))
 
-module _ (ws : List ℕ) (long : length ws ≡ 4) (a : ℕ) (high : a < 256) where
-  within : a / 64 < length ws
+module _ (s : Addresses) (long : length s.words ≡ 4) (a : ℕ) (high : a < 256) where
+  within : a / 64 < length s.words
   within = omega arith
 
-  pub including-same : holds (including ws a) a ≡ true
+  pub including-same : holds (including s a) a ≡ true
   unfolding holds including
-  including-same = eq-eqb _ 1 (here ws a (λ w. bit_or w (2 ^ (a % 64))) within 1 (set-bit (a % 64) (word_at ws a)))
+  including-same = eq-eqb _ 1 (here s.words a (λ w. bit_or w (2 ^ (a % 64))) within 1 (set-bit (a % 64) (word_at s a)))
 
-  pub including-other : (x : ℕ) → (x ≡ a → ⊥) → holds (including ws a) x ≡ holds ws x
+  pub including-other : (x : ℕ) → (x ≡ a → ⊥) → holds (including s a) x ≡ holds s x
   unfolding holds including
   including-other x n =
-      ap (λ (b : ℕ). eqb b 1) (elsewhere ws a (λ w. bit_or w (2 ^ (a % 64))) x n (λ i w m. set-bit-other i (a % 64) w m) within)
+      ap (λ (b : ℕ). eqb b 1) (elsewhere s.words a (λ w. bit_or w (2 ^ (a % 64))) x n (λ i w m. set-bit-other i (a % 64) w m) within)
 
-  pub excluding-same : holds (excluding ws a) a ≡ false
+  pub excluding-same : holds (excluding s a) a ≡ false
   unfolding holds excluding
-  excluding-same = not-one (here ws a (λ w. bit_xor w (bit_and w (2 ^ (a % 64)))) within 0 (clear-bit (a % 64) (word_at ws a)))
+  excluding-same = not-one (here s.words a (λ w. bit_xor w (bit_and w (2 ^ (a % 64)))) within 0 (clear-bit (a % 64) (word_at s a)))
 
-  pub excluding-other : (x : ℕ) → (x ≡ a → ⊥) → holds (excluding ws a) x ≡ holds ws x
+  pub excluding-other : (x : ℕ) → (x ≡ a → ⊥) → holds (excluding s a) x ≡ holds s x
   unfolding holds excluding
   excluding-other x n =
-      ap (λ (b : ℕ). eqb b 1) (elsewhere ws a (λ w. bit_xor w (bit_and w (2 ^ (a % 64)))) x n (λ i w m. clear-bit-other i (a % 64) w m) within)
+      ap (λ (b : ℕ). eqb b 1) (elsewhere s.words a (λ w. bit_xor w (bit_and w (2 ^ (a % 64)))) x n (λ i w m. clear-bit-other i (a % 64) w m) within)
 
 -- ---- a word's part from an address on
 
-module _ (ws : List ℕ) (at : ℕ) where
+module _ (s : Addresses) (at : ℕ) where
   -- the bits of the word from `at` on
   abbrev pub rest_at : ℕ
-  rest_at = word_at ws at / 2 ^ (at % 64)
+  rest_at = word_at s at / 2 ^ (at % 64)
 
   -- the bit of an address at + i in the same word
-  in-word : (i : ℕ) → i < 64 - at % 64 → bit_at ((at + i) % 64) (word_at ws (at + i)) ≡ bit_at i rest_at
+  in-word : (i : ℕ) → i < 64 - at % 64 → bit_at ((at + i) % 64) (word_at s (at + i)) ≡ bit_at i rest_at
   in-word i h =
       let d : (at + i) / 64 ≡ at / 64 = omega arith in
       let m : (at + i) % 64 ≡ at % 64 + i = omega arith in
-      ap₂ (λ (k w : ℕ). bit_at k (get_or ws w 0)) m d ∙ sym (bit-shr i (at % 64) (word_at ws at))
+      ap₂ (λ (k w : ℕ). bit_at k (get_or s.words w 0)) m d ∙ sym (bit-shr i (at % 64) (word_at s at))
 
-  at_place : (x : ℕ) → at ≤ x → x < at + (64 - at % 64) → (b : ℕ) → bit_at (x - at) rest_at ≡ b → bit_at (x % 64) (word_at ws x) ≡ b
-  at_place x low high b e =
-      let s : x ≡ at + (x - at) = omega arith in
-      ap (λ (y : ℕ). bit_at (y % 64) (word_at ws y)) s ∙ in-word (x - at) (omega arith) ∙ e
+  at_place : (x : ℕ) → at ≤ x → x < at + (64 - at % 64) → (b : ℕ) → bit_at (x - at) rest_at ≡ b → bit_at (x % 64) (word_at s x) ≡ b
+  at_place x low high b is =
+      let e : x ≡ at + (x - at) = omega arith in
+      ap (λ (y : ℕ). bit_at (y % 64) (word_at s y)) e ∙ in-word (x - at) (omega arith) ∙ is
 
   -- no bit is set: the search goes on at the next word
-  pub rest-none : at < 256 → rest_at ≡ 0 → lowest_from (holds ws) at (256 - at) ≡ lowest_from (holds ws) ((at / 64 + 1) * 64) (256 - (at / 64 + 1) * 64)
+  pub rest-none : at < 256 → rest_at ≡ 0 → lowest_from (holds s) at (256 - at) ≡ lowest_from (holds s) ((at / 64 + 1) * 64) (256 - (at / 64 + 1) * 64)
   unfolding holds
   rest-none h e =
       let m : 256 - at ≡ (64 - at % 64) + (256 - (at / 64 + 1) * 64) = omega arith in
-      let s : at + (64 - at % 64) ≡ (at / 64 + 1) * 64 = omega arith in
-      ap (lowest_from (holds ws) at) m
-      ∙ lowest-past (holds ws) at (64 - at % 64) (256 - (at / 64 + 1) * 64)
+      let n : at + (64 - at % 64) ≡ (at / 64 + 1) * 64 = omega arith in
+      ap (lowest_from (holds s) at) m
+      ∙ lowest-past (holds s) at (64 - at % 64) (256 - (at / 64 + 1) * 64)
       (λ x low high. not-one (at_place x low high 0 (none (x - at))))
-      ∙ ap (λ (y : ℕ). lowest_from (holds ws) y (256 - (at / 64 + 1) * 64)) s
+      ∙ ap (λ (y : ℕ). lowest_from (holds s) y (256 - (at / 64 + 1) * 64)) n
     where
       none : (i : ℕ) → bit_at i rest_at ≡ 0
       none i = ap (bit_at i) e ∙ bit-none i
 
   -- one is: the lowest of them is found
-  pub rest_some : at < 256 → word_at ws at < 2 ^ 64 → (rest_at ≡ 0 → ⊥) →
-      (lowest_from (holds ws) at (256 - at) ≡ at + count_trailing_zeros 64 rest_at) × (count_trailing_zeros 64 rest_at < 64 - at % 64)
+  pub rest_some : at < 256 → word_at s at < 2 ^ 64 → (rest_at ≡ 0 → ⊥) →
+      (lowest_from (holds s) at (256 - at) ≡ Some (at + count_trailing_zeros 64 rest_at)) × (count_trailing_zeros 64 rest_at < 64 - at % 64)
   unfolding holds
   rest_some h small n =
       let t = count_trailing_zeros 64 rest_at in
       let b : LowestBit (64 - at % 64) rest_at t = lowest-bit (64 - at % 64) 64 rest_at (omega arith) fits (omega arith) in
-      let r : Lowest (holds ws) at (256 - at) (at + t) = record {
+      let r : Lowest (holds s) at (256 - at) (at + t) = record {
         low = omega arith;
         high = omega arith;
         passes = eq-eqb _ 1 (in-word t b.within ∙ b.is_set);
         least = λ x low high. not-one (at_place x low (omega arith) 0 (b.below (x - at) (omega arith)));
       } in
-      (lowest-found (holds ws) at (256 - at) (at + t) r, b.within)
+      (lowest-found (holds s) at (256 - at) (at + t) r, b.within)
     where
       fits : rest_at < 2 ^ (64 - at % 64)
       fits = shr_lt (64 - at % 64) (at % 64) (let e : 64 ≡ (64 - at % 64) + at % 64 = omega arith in rw (← e) small)
@@ -158,29 +163,30 @@ or-zero : (a b : ℕ) → bit_or a b ≡ 0 → (a ≡ 0) × (b ≡ 0)
 or-zero a b e = (omega (arith, or_add_and a b, and_le_l a b, and_le_r a b), omega (arith, or_add_and a b, and_le_l a b, and_le_r a b))
 
 -- each of the four words is 0
-word-zero : (ws : List ℕ) → is_empty ws ≡ true → (i : ℕ) → i < 4 → get_or ws i 0 ≡ 0
+word-zero : (s : Addresses) → is_empty s ≡ true → (i : ℕ) → i < 4 → get_or s.words i 0 ≡ 0
 unfolding is_empty
-word-zero ws e i h = by_word i h
+word-zero s e i h = by_word i h
   where
-    halves : (bit_or (get_or ws 0 0) (get_or ws 1 0) ≡ 0) × (bit_or (get_or ws 2 0) (get_or ws 3 0) ≡ 0)
-    halves = or-zero (bit_or (get_or ws 0 0) (get_or ws 1 0)) (bit_or (get_or ws 2 0) (get_or ws 3 0)) (eqb-true _ 0 e)
+    w : ℕ → ℕ
+    w i = get_or s.words i 0
 
-    by_word : (i : ℕ) → i < 4 → get_or ws i 0 ≡ 0
-    by_word zero h = (or-zero (get_or ws 0 0) (get_or ws 1 0) halves.0).0
-    by_word (suc zero) h = (or-zero (get_or ws 0 0) (get_or ws 1 0) halves.0).1
-    by_word (suc (suc zero)) h = (or-zero (get_or ws 2 0) (get_or ws 3 0) halves.1).0
-    by_word (suc (suc (suc zero))) h = (or-zero (get_or ws 2 0) (get_or ws 3 0) halves.1).1
+    halves : (bit_or (w 0) (w 1) ≡ 0) × (bit_or (w 2) (w 3) ≡ 0)
+    halves = or-zero (bit_or (w 0) (w 1)) (bit_or (w 2) (w 3)) (eqb-true _ 0 e)
+
+    by_word : (i : ℕ) → i < 4 → w i ≡ 0
+    by_word zero h = (or-zero (w 0) (w 1) halves.0).0
+    by_word (suc zero) h = (or-zero (w 0) (w 1) halves.0).1
+    by_word (suc (suc zero)) h = (or-zero (w 2) (w 3) halves.1).0
+    by_word (suc (suc (suc zero))) h = (or-zero (w 2) (w 3) halves.1).1
     by_word (suc (suc (suc (suc i)))) h = absurd (omega arith)
 
-pub empty_holds : (ws : List ℕ) → is_empty ws ≡ true → (a : ℕ) → a < 256 → holds ws a ≡ false
+pub empty_holds : (s : Addresses) → is_empty s ≡ true → (a : ℕ) → a < 256 → holds s a ≡ false
 unfolding holds
-empty_holds ws e a h = not-one (ap (bit_at (a % 64)) (word-zero ws e (a / 64) (omega arith)) ∙ bit-none (a % 64))
+empty_holds s e a h = not-one (ap (bit_at (a % 64)) (word-zero s e (a / 64) (omega arith)) ∙ bit-none (a % 64))
 
 -- so the search finds none
-pub empty-lowest : (ws : List ℕ) → is_empty ws ≡ true → (k : ℕ) → lowest_above (holds ws) k ≡ 0
-empty-lowest ws e k =
-    let b = lowest_above (holds ws) k in
-    either (eqb b 0) (λ t. eqb→eq b 0 t)
-    (λ f. let n = eqb-false b 0 (is_false (eqb b 0) f) in
-    let r = lowest-is (holds ws) (suc k) (255 - k) b refl (omega arith) in
-    absurd (clash (empty_holds ws e b (omega arith)) r.passes))
+pub empty-lowest : (s : Addresses) → is_empty s ≡ true → (k : ℕ) → lowest_above (holds s) k ≡ None
+empty-lowest s e k =
+    by_found (lowest_above (holds s) k) (λ n. n)
+    (λ b f. let r = lowest-is (holds s) (suc k) (255 - k) b f in
+    absurd (clash (empty_holds s e b (omega arith)) r.passes))

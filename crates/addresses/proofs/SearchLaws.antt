@@ -1,26 +1,32 @@
 -- The laws of the search and the count: what the lowest is, where it is found, that fewer pass a narrower test, and a loop's next turn. Assumes nothing.
-use Rattle.std.specs.Prelude.{◌≡◌, Bool, true, false, cond, eqb}
+use Rattle.std.specs.Prelude.{◌≡◌, Bool, true, false, cond, eqb, Option, None, Some}
 use Rattle.std.proofs.Math.Path.{refl, sym, ap}
 use Rattle.std.proofs.Common.{◌∙◌, zero-add, add-zero, suc-add, add-suc, add-one}
 use Prim.Native.Nat.{ℕ, zero, suc, ◌+◌, ◌-◌, ◌≤◌, ◌<◌}
 use native.Mathlib.Omega.{arith}
 use Rattle.std.proofs.Math.Dec.{eqb→eq}
+use Rattle.std.proofs.lemmas.Option.{none-some, same_Some}
 use borrow.Author.Tests.{eqb-false}
 use Rattle.integers.specs.ChoiceLaws.{by-test, either, is_true, is_false}
 use Rattle.addresses.specs.Search.{lowest_from, count_from}
 
 -- ---- what the lowest is
 
--- 0: none of them passes
-pub lowest-none : (p : ℕ → Bool) (a n : ℕ) → 0 < a → lowest_from p a n ≡ 0 → (x : ℕ) → a ≤ x → x < a + n → p x ≡ false
+-- none is found, or one is
+pub by_found : {X : Type 0} (o : Option ℕ) → (o ≡ None → X) → ((b : ℕ) → o ≡ Some b → X) → X
+by_found None f g = f refl
+by_found (Some b) f g = g b refl
+
+-- none: none of them passes
+pub lowest-none : (p : ℕ → Bool) (a n : ℕ) → lowest_from p a n ≡ None → (x : ℕ) → a ≤ x → x < a + n → p x ≡ false
 unfolding lowest_from
-lowest-none p a zero above e x low high = absurd (omega arith)
-lowest-none p a (suc n) above e x low high =
+lowest-none p a zero e x low high = absurd (omega arith)
+lowest-none p a (suc n) e x low high =
     either (p a)
-    (λ t. let z : a ≡ 0 = rw (is_true (p a) t) at e in absurd (omega arith))
+    (λ t. absurd (none-some a (sym (rw (is_true (p a) t) at e))))
     (λ f. either (eqb x a)
     (λ same. ap p (eqb→eq x a same) ∙ is_false (p a) f)
-    (λ other. lowest-none p (suc a) n (omega arith) (rw (is_false (p a) f) at e) x (omega (arith, eqb-false x a (is_false (eqb x a) other))) (omega arith)))
+    (λ other. lowest-none p (suc a) n (rw (is_false (p a) f) at e) x (omega (arith, eqb-false x a (is_false (eqb x a) other))) (omega arith)))
 
 -- else it passes, and none below it does
 pub record Lowest (p : ℕ → Bool) (a n b : ℕ) : Type 0 where
@@ -29,14 +35,14 @@ pub record Lowest (p : ℕ → Bool) (a n b : ℕ) : Type 0 where
   pub passes : p b ≡ true
   pub least : (x : ℕ) → a ≤ x → x < b → p x ≡ false
 
-pub lowest-is : (p : ℕ → Bool) (a n b : ℕ) → lowest_from p a n ≡ b → 0 < b → Lowest p a n b
+pub lowest-is : (p : ℕ → Bool) (a n b : ℕ) → lowest_from p a n ≡ Some b → Lowest p a n b
 unfolding lowest_from
-lowest-is p a zero b e h = absurd (omega arith)
-lowest-is p a (suc n) b e h =
+lowest-is p a zero b e = absurd (none-some b e)
+lowest-is p a (suc n) b e =
     either (p a)
-    (λ t. let same : a ≡ b = rw (is_true (p a) t) at e in
+    (λ t. let same : a ≡ b = same_Some a b (rw (is_true (p a) t) at e) in
     record { low = omega arith; high = omega arith; passes = ap p (sym same) ∙ is_true (p a) t; least = λ x low high. absurd (omega arith) })
-    (λ f. let r = lowest-is p (suc a) n b (rw (is_false (p a) f) at e) h in
+    (λ f. let r = lowest-is p (suc a) n b (rw (is_false (p a) f) at e) in
     record {
       low = omega arith;
       high = omega arith;
@@ -48,12 +54,12 @@ lowest-is p a (suc n) b e h =
 -- ---- where it is found
 
 -- the first that passes
-pub lowest-found : (p : ℕ → Bool) (a n b : ℕ) → Lowest p a n b → lowest_from p a n ≡ b
+pub lowest-found : (p : ℕ → Bool) (a n b : ℕ) → Lowest p a n b → lowest_from p a n ≡ Some b
 unfolding lowest_from
 lowest-found p a zero b r = absurd (omega arith)
 lowest-found p a (suc n) b r =
     either (eqb a b)
-    (λ same. let e = eqb→eq a b same in rw (ap p e ∙ r.passes) e)
+    (λ same. let e = eqb→eq a b same in rw (ap p e ∙ r.passes) (ap Some e))
     (λ other. let m : a < b = omega (arith, eqb-false a b (is_false (eqb a b) other)) in
     rw (r.least a (omega arith) m)
     (lowest-found p (suc a) n b (record { low = m; high = omega arith; passes = r.passes; least = λ x low high. r.least x (omega arith) high })))
@@ -67,20 +73,11 @@ lowest-past p a (suc m) n none =
 
 -- ---- the count in a loop that goes up from a
 
-module _ (p : ℕ → Bool) (a : ℕ) where
-  -- of the addresses above a
-  abbrev pub count_above : ℕ
-  count_above = count_from p (suc a) (255 - a)
-
-pub count-step : (p : ℕ → Bool) (a : ℕ) → a < 255 → (b : Bool) → p (a + 1) ≡ b → count_above p a ≡ cond b 1 0 + count_above p (a + 1)
+pub count-step : (p : ℕ → Bool) (a : ℕ) → a < 256 → (b : Bool) → p a ≡ b → count_from p a (256 - a) ≡ cond b 1 0 + count_from p (a + 1) (256 - (a + 1))
 unfolding count_from
 count-step p a h b e =
-    let n : 255 - a ≡ suc (255 - (a + 1)) = omega arith in
+    let n : 256 - a ≡ suc (256 - (a + 1)) = omega arith in
     rw (n, ← add-one a, e)
-
-pub count-end : (p : ℕ → Bool) (a : ℕ) → 255 ≤ a → count_above p a ≡ 0
-unfolding count_from
-count-end p a h = let n : 255 - a ≡ 0 = omega arith in rw n
 
 -- ---- fewer pass a narrower test
 

@@ -4,108 +4,48 @@
 // Uses `dispatcher` for the steps, `timing` for the argument and the sum, and `ports` to read.
 #![tactic(auto)]
 
-ghost use Rattle.std.specs.Prelude.{◌≤◌};
-
-use dispatcher::{Answer, Choice, Dispatcher};
+use dispatcher::Dispatcher;
 use timing::{mixed, rounds};
 
 // The bytes of the steps that are run once.
 const FIRST: usize = 128;
 
-// Where the steps have come.
-#[derive(Clone, Copy)]
-struct Run {
-    // The dispatcher after them.
-    dispatcher: Dispatcher,
-    // The sum over what they answered.
-    sum: u64,
-}
-
-// Who is polled as a number, 0 for nobody.
-fn number(choice: Choice) -> u64 {
-    match choice {
-        Choice::Panel(a) => a as u64,
-        Choice::Nobody => 0,
-    }
-}
-
-// A pick.
-fn picked(r: Run) -> Run {
-    let d = r.dispatcher;
-    let t = dispatcher::pick(d);
-    let choice = t.choice;
-    let n = t.dispatcher;
-    Run {
-        dispatcher: n,
-        sum: mixed(r.sum, number(choice)),
-    }
-}
-
-// What a join or a report leaves.
-fn answered(sum: u64, a: Answer) -> Run {
-    let n = a.dispatcher;
-    Run {
-        dispatcher: n,
-        sum: mixed(sum, a.refusal as u64),
-    }
-}
-
 // One step.
-fn step(r: Run, kind: u8, address: u8) -> Run {
-    if kind == 0 {
-        return picked(r);
-    }
-    let d = r.dispatcher;
-    let a = address as u32;
-    if kind == 1 {
-        return answered(r.sum, dispatcher::register(d, a));
-    }
-    if kind <= 3 {
-        return answered(r.sum, dispatcher::report(d, a, kind == 3));
-    }
-    r
+fn step(d: &mut Dispatcher, sum: u64, kind: u8, address: u8) -> u64 {
+    let a = u32::from(address);
+    let n = match kind {
+        0 => d.pick().unwrap_or(0),
+        1 => dispatcher::number_of(d.register(a)),
+        2 | 3 => dispatcher::number_of(d.report(a, kind == 3)),
+        _ => return sum,
+    };
+    mixed(sum, u64::from(n))
 }
 
 // The steps of some bytes.
-fn steps(r: Run, bytes: &[u8]) -> Run {
-    let mut n = r;
-    let mut i: usize = 0;
-    while i + 1 < bytes.len() {
-        n = step(n, bytes[i], bytes[i + 1]);
-        i += 2;
+fn steps(d: &mut Dispatcher, sum: u64, bytes: &[u8]) -> u64 {
+    let mut n = sum;
+    for pair in bytes.chunks_exact(2) {
+        n = step(d, n, pair[0], pair[1]);
     }
     n
 }
 
 // The steps of some bytes again and again.
-fn repeated(r: Run, bytes: &[u8], rounds: u64) -> Run {
-    let mut n = r;
+fn repeated(d: &mut Dispatcher, sum: u64, bytes: &[u8], rounds: u64) -> u64 {
+    let mut n = sum;
     for _ in 0..rounds {
-        n = steps(n, bytes);
+        n = steps(d, n, bytes);
     }
     n
 }
 
-// How many of so many bytes are run once.
-fn first_of(n: usize) -> usize
-    ensures { result ≤ n }
-{
-    if n < FIRST {
-        return n;
-    }
-    FIRST
-}
-
 // The sum over the steps of the bytes.
 fn timed(bytes: &[u8], rounds: u64) -> u64 {
-    let fresh = Run {
-        dispatcher: dispatcher::fresh(),
-        sum: 0,
-    };
-    let k = first_of(bytes.len());
-    let first = steps(fresh, &bytes[..k]);
-    let last = repeated(first, &bytes[k..], rounds);
-    last.sum
+    let mut d = dispatcher::fresh();
+    let (first, last) = bytes.split_at(FIRST.min(bytes.len()));
+    let sum = steps(&mut d, 0, first);
+    repeated(&mut d, sum, last, rounds)
 }
 
 fn main(rt: HostRuntime) {

@@ -3,7 +3,9 @@
 #![tactic(auto)]
 
 ghost use Rattle.std.specs.Prelude.{◌≡◌};
-ghost use Rattle.dispatcher.specs.Dispatch.{fresh_of, group_of, next_of, entered, left, polled_of, with_panel, with_report, outside, present, panels, register_of, answer, report_of, pick_of};
+ghost use Rattle.dispatcher.specs.Dispatch.{fresh_of, group_of, next_of, kept_of, with_report, address_of, present, panels, refusal_number, number_of, register_of, report_of, pick_of};
+
+use addresses::Addresses;
 
 // The most panels on a line.
 const MOST: usize = 32;
@@ -13,20 +15,47 @@ const LOWEST: u32 = 1;
 
 const HIGHEST: u32 = 247;
 
-// The refusals: no such address, or no panel there; an address already present; a panel too many.
-const NO_PANEL: u8 = 32;
+// Why a call is refused.
+#[derive(Clone, Copy, Debug, PartialEq, Eq)]
+pub enum Refusal {
+    // A panel more than there may be.
+    TooMany,
+    // There is a panel at the address.
+    Present,
+    // No panel may have the address, or none is registered there.
+    NoPanel,
+}
 
-const PRESENT: u8 = 29;
+impl Refusal {
+    // The number of the refusal.
+    pub fn number(self) -> u8
+        ensures { result ≡ refusal_number self }
+    {
+        match self {
+            Refusal::TooMany => 28,
+            Refusal::Present => 29,
+            Refusal::NoPanel => 32,
+        }
+    }
+}
 
-const TOO_MANY: u8 = 28;
+// The number of what registering and reporting answer: 0 where they are not refused.
+pub fn number_of(answer: Result<(), Refusal>) -> u8
+    ensures { result ≡ number_of answer }
+{
+    match answer {
+        Ok(()) => 0,
+        Err(refusal) => refusal.number(),
+    }
+}
 
 // The panels that are in error, or the ordinary ones: a group, which takes turns.
 #[derive(Clone, Copy)]
 pub struct Group {
-    // Their addresses, address a as bit a % 64 of word a / 64.
-    pub members: [u64; 4],
-    // The address that the group polled last, 0 for none yet. A word, like the mark below: nothing lies between the fields then, and a copy is fast.
-    pub last: u64,
+    // Their addresses.
+    pub members: Addresses,
+    // The address that the group polled last, if any.
+    pub last: Option<u8>,
 }
 
 // The panels of a line, and where the polling stands.
@@ -36,247 +65,142 @@ pub struct Dispatcher {
     pub error: Group,
     // The other ones.
     pub ordinary: Group,
-    // 1 where the last poll of all was of a panel in error.
-    pub faulty: u64,
-}
-
-// What registering and reporting answer.
-#[derive(Clone, Copy)]
-pub struct Answer {
-    // The dispatcher after it, the same where it is refused.
-    pub dispatcher: Dispatcher,
-    // The number of the refusal, 0 for none.
-    pub refusal: u8,
-}
-
-// What a pick chooses.
-#[derive(Clone, Copy)]
-pub enum Choice {
-    // The panel at this address is polled.
-    Panel(u8),
-    // No panel is registered.
-    Nobody,
-}
-
-// What a pick answers.
-#[derive(Clone, Copy)]
-pub struct Turn {
-    // The dispatcher after it.
-    pub dispatcher: Dispatcher,
-    // Who is polled.
-    pub choice: Choice,
+    // Whether the last poll of all was of a panel in error.
+    pub faulty: bool,
 }
 
 // A dispatcher with no panel.
 pub fn fresh() -> Dispatcher
     ensures { result ≡ fresh_of }
 {
+    let empty = Group {
+        members: Addresses::new(),
+        last: None,
+    };
     Dispatcher {
-        error: Group {
-            members: [0; 4],
-            last: 0,
-        },
-        ordinary: Group {
-            members: [0; 4],
-            last: 0,
-        },
-        faulty: 0,
+        error: empty,
+        ordinary: empty,
+        faulty: false,
     }
 }
 
-// The panels in error, or the ordinary ones.
-fn group_of(d: Dispatcher, error: bool) -> Group
-    ensures { result ≡ group_of d error }
+// The address of a panel, where one may have it.
+fn address_of(address: u32) -> Result<u8, Refusal>
+    ensures { result ≡ address_of address }
 {
-    if error {
-        let g = d.error;
-        return g;
+    if address < LOWEST || HIGHEST < address {
+        return Err(Refusal::NoPanel);
     }
-    let g = d.ordinary;
-    g
+    Ok(address as u8)
 }
 
-// The member of a group whose turn it is, 0 where it has none.
-fn next(g: Group) -> u8
-    ensures { result ≡ next_of g }
-{
-    let members = g.members;
-    if addresses::is_empty(members) {
-        return 0;
-    }
-    let higher = addresses::lowest_above(members, g.last);
-    if higher == 0 {
-        return addresses::lowest_above(members, 0);
-    }
-    higher
-}
-
-// A group with a panel more.
-fn enter(g: Group, a: u8) -> Group
-    ensures { result ≡ entered g a }
-{
-    let members = g.members;
-    Group {
-        members: addresses::with(members, a),
-        last: g.last,
+impl Group {
+    // The member whose turn it is, if there is one: after the last one polled the next higher, else the lowest.
+    fn next(&self) -> Option<u8>
+        ensures { result ≡ next_of self.now }
+    {
+        if self.members.is_empty() {
+            return None;
+        }
+        let last = self.last.unwrap_or(0);
+        self.members
+            .lowest_above(u64::from(last))
+            .or_else(|| self.members.lowest_above(0))
     }
 }
 
-// A group without a panel.
-fn leave(g: Group, a: u8) -> Group
-    ensures { result ≡ left g a }
-{
-    let members = g.members;
-    Group {
-        members: addresses::without(members, a),
-        last: g.last,
+impl Dispatcher {
+    // The panels in error, or the ordinary ones.
+    fn group(&self, error: bool) -> &Group
+        ensures { result.now ≡ group_of self.now error }
+    {
+        if error { &self.error } else { &self.ordinary }
     }
-}
 
-// The turn that polls a group's member.
-fn polled(d: Dispatcher, error: bool, a: u8) -> Turn
-    ensures { result ≡ polled_of d error a }
-{
-    let last = a as u64;
-    let mut n = d;
-    if error {
-        n.error.last = last;
-        n.faulty = 1;
-    } else {
-        n.ordinary.last = last;
-        n.faulty = 0;
+    // A group's member is polled.
+    fn keep(&mut self, error: bool, a: u8)
+        ensures { self.new ≡ kept_of self.old error a }
+    {
+        if error {
+            self.error.last = Some(a);
+        } else {
+            self.ordinary.last = Some(a);
+        }
+        self.faulty = error;
     }
-    Turn {
-        dispatcher: n,
-        choice: Choice::Panel(a),
+
+    // Whether a panel is registered at an address.
+    fn is_present(&self, a: u8) -> bool
+        ensures { result ≡ present self.now a }
+    {
+        self.error.members.has(a) || self.ordinary.members.has(a)
     }
-}
 
-// Whether no panel may have an address.
-fn is_outside(address: u32) -> bool
-    ensures { result ≡ outside address }
-{
-    address < LOWEST || HIGHEST < address
-}
+    // How many panels are registered.
+    fn count(&self) -> usize
+        ensures { result ≡ panels self.now }
+    {
+        let mut n = 0;
+        for a in 1..=255 {
+            if self.is_present(a) {
+                n += 1;
+            }
+        }
+        n
+    }
 
-// Whether a panel is registered at an address.
-fn is_present(d: Dispatcher, a: u8) -> bool
-    ensures { result ≡ present d a }
-{
-    let e = d.error.members;
-    let o = d.ordinary.members;
-    addresses::has(e, a) || addresses::has(o, a)
-}
-
-// How many panels are registered.
-fn count(d: Dispatcher) -> usize
-    ensures { result ≡ panels d }
-{
-    let mut n: usize = 0;
-    let mut a: u8 = 0;
-    while a < 255 {
-        a += 1;
-        if is_present(d, a) {
-            n += 1;
+    // A panel is in the group that it reports.
+    fn put(&mut self, address: u8, error: bool)
+        ensures { self.new ≡ with_report self.old address error }
+    {
+        if error {
+            self.ordinary.members.remove(address);
+            self.error.members.insert(address);
+        } else {
+            self.error.members.remove(address);
+            self.ordinary.members.insert(address);
         }
     }
-    n
-}
 
-// A new panel, ordinary at first.
-fn with_panel(d: Dispatcher, a: u8) -> Dispatcher
-    ensures { result ≡ with_panel d a }
-{
-    let old = d.ordinary;
-    let joined = enter(old, a);
-    let mut n = d;
-    n.ordinary = joined;
-    n
-}
+    // Registers a panel, ordinary at first; where it is refused, all stays as it is.
+    pub fn register(&mut self, address: u32) -> Result<(), Refusal>
+        ensures { (self.new, result) ≡ register_of self.old address }
+    {
+        let a = address_of(address)?;
+        if self.is_present(a) {
+            return Err(Refusal::Present);
+        }
+        if MOST <= self.count() {
+            return Err(Refusal::TooMany);
+        }
+        self.ordinary.members.insert(a);
+        Ok(())
+    }
 
-// A panel in the group that it reports.
-fn with_report(d: Dispatcher, a: u8, error: bool) -> Dispatcher
-    ensures { result ≡ with_report d a error }
-{
-    let e = d.error;
-    let o = d.ordinary;
-    if error {
-        return Dispatcher {
-            error: enter(e, a),
-            ordinary: leave(o, a),
-            faulty: d.faulty,
-        };
+    // A panel's report, of an error or of none; where it is refused, all stays as it is.
+    pub fn report(&mut self, address: u32, error: bool) -> Result<(), Refusal>
+        ensures { (self.new, result) ≡ report_of self.old address error }
+    {
+        let a = address_of(address)?;
+        if !self.is_present(a) {
+            return Err(Refusal::NoPanel);
+        }
+        self.put(a, error);
+        Ok(())
     }
-    Dispatcher {
-        error: leave(e, a),
-        ordinary: enter(o, a),
-        faulty: d.faulty,
-    }
-}
 
-// A refusal changes nothing.
-fn refused(d: Dispatcher, refusal: u8) -> Answer
-    ensures { result ≡ answer d refusal }
-{
-    Answer {
-        dispatcher: d,
-        refusal,
-    }
-}
-
-// Registers a panel: 32 an address outside 1 to 247, 29 one already present, 28 a 33rd panel.
-pub fn register(d: Dispatcher, address: u32) -> Answer
-    ensures { result ≡ register_of d address }
-{
-    if is_outside(address) {
-        return refused(d, NO_PANEL);
-    }
-    let a = address as u8;
-    if is_present(d, a) {
-        return refused(d, PRESENT);
-    }
-    if MOST <= count(d) {
-        return refused(d, TOO_MANY);
-    }
-    Answer {
-        dispatcher: with_panel(d, a),
-        refusal: 0,
-    }
-}
-
-// A panel's report, of an error or of none: 32 where it is not registered.
-pub fn report(d: Dispatcher, address: u32, error: bool) -> Answer
-    ensures { result ≡ report_of d address error }
-{
-    if is_outside(address) {
-        return refused(d, NO_PANEL);
-    }
-    let a = address as u8;
-    if is_present(d, a) {
-        return Answer {
-            dispatcher: with_report(d, a, error),
-            refusal: 0,
-        };
-    }
-    refused(d, NO_PANEL)
-}
-
-// The panel that is polled next. After a poll of one in error the ordinary ones come first, else those in error.
-pub fn pick(d: Dispatcher) -> Turn
-    ensures { result ≡ pick_of d }
-{
-    let first = d.faulty != 1;
-    let a = next(group_of(d, first));
-    if a != 0 {
-        return polled(d, first, a);
-    }
-    let second = d.faulty == 1;
-    let b = next(group_of(d, second));
-    if b != 0 {
-        return polled(d, second, b);
-    }
-    Turn {
-        dispatcher: d,
-        choice: Choice::Nobody,
+    // The panel that is polled next, if one is registered. After a poll of one in error the ordinary ones come first, else those in error.
+    pub fn pick(&mut self) -> Option<u8>
+        ensures { (self.new, result) ≡ pick_of self.old }
+    {
+        let first = !self.faulty;
+        if let Some(a) = self.group(first).next() {
+            self.keep(first, a);
+            return Some(a);
+        }
+        let second = self.faulty;
+        let b = self.group(second).next()?;
+        self.keep(second, b);
+        Some(b)
     }
 }

@@ -2,7 +2,7 @@
 -- before a. The group's next order starts behind it, so a has one rival less; and no report makes a rival, since groups do not count. A poll of the other group
 -- comes only after one of a's. So 2 * rivals, and 1 more where the last poll was of a's group, falls with every pick that does not choose a; it is below 2n,
 -- since a is no rival of its own.
-use Rattle.std.specs.Prelude.{◌≡◌, refl, Bool, true, false, not, cond, ◌&&◌, ◌||◌, List, [], ◌∷◌, ◌⊎◌, ℕ, zero, suc, ◌+◌, ◌*◌, ◌≤◌, ◌<◌, T, ltb, eqb, length}
+use Rattle.std.specs.Prelude.{◌≡◌, refl, Bool, true, false, not, cond, ◌&&◌, ◌||◌, List, [], ◌∷◌, ◌⊎◌, ℕ, Option, Some, zero, suc, ◌+◌, ◌*◌, ◌≤◌, ◌<◌, T, ltb, eqb, length}
 use Rattle.std.proofs.Common.{sym, ◌∙◌, subst, ⊎_elim, arith, eqb→eq}
 use Rattle.std.proofs.Math.Path.{ap}
 use Rattle.std.specs.Bool.{beq}
@@ -13,15 +13,12 @@ use Rattle.integers.specs.TestLaws.{and_both, and-false}
 use Rattle.addresses.specs.Search.{count_all}
 use Rattle.addresses.proofs.SearchLaws.{count_less, count_same}
 use Rattle.dispatcher.specs.declared.Dispatcher.{Dispatcher}
-use Rattle.dispatcher.specs.declared.Turn.{Turn}
-use Rattle.dispatcher.specs.declared.Choice.{Choice}
-use Rattle.dispatcher.specs.declared.Choice.TheVariants.{Panel}
-use Rattle.dispatcher.specs.Dispatch.{group_of, member, some, in_error, present, panels, fresh_of, next_of, after_error, kept_of, polls, pick_of}
-use Rattle.dispatcher.proofs.TurnLaws.{some-member, pick_first, pick_second}
+use Rattle.dispatcher.specs.Dispatch.{group_of, member, some, in_error, present, panels, fresh_of, last_of, next_of, after_error, kept_of, Turn, polled_of, polls, pick_of}
+use Rattle.dispatcher.proofs.TurnLaws.{some-member, some-next, pick_first, pick_second}
 use Rattle.waiting.specs.Steps.{Step, picks, reports, registers, after, ran, choices}
 use Rattle.waiting.specs.Promise.{Steady, PolledWithin, Promise, quiet, QuietPromise}
 use Rattle.waiting.proofs.StepLaws.{registered-is, Still, report-still, register-still, Whole, whole-ran, whole-after, pick-present, pick-error, report-present, report-keeps}
-use Rattle.waiting.specs.OrderLaws.{way, way_same, way_on, way-last, next-nearest}
+use Rattle.waiting.specs.OrderLaws.{way, way_same, way_on, way-last, Nearest, next-nearest}
 
 -- ---- a panel is in its own group, and what that says of a pick
 
@@ -30,19 +27,19 @@ own d a true p e = e
 own d a false p e = rw e at p
 
 module _ (d : Dispatcher) (a : ℕ) (low : 0 < a) (high : a < 256) where
-  -- a pick polls the group of a, or the other one after a poll of a's
+  -- a pick polls the group of a, or the other one, if it has a panel, after a poll of a's
   abbrev Polls : Bool → Type 0
-  Polls g = (pick_of d ≡ polls d g) ⊎ ((pick_of d ≡ polls d (not g)) × (after_error d ≡ g))
+  Polls g = (pick_of d ≡ polls d g) ⊎ ((pick_of d ≡ polls d (not g)) × (some (group_of d (not g)) ≡ true) × (after_error d ≡ g))
 
   which : (g f : Bool) → after_error d ≡ f → member (group_of d g) a ≡ true → Polls g
   which true true e is =
       let s = some-member d.error a low high is in
-      either (some d.ordinary) (λ t. inr (pick_first d true e (is_true (some d.ordinary) t), e)) (λ n. inl (pick_second d true e (is_false (some d.ordinary) n) s))
+      either (some d.ordinary) (λ t. let o = is_true (some d.ordinary) t in inr (pick_first d true e o, o, e)) (λ n. inl (pick_second d true e (is_false (some d.ordinary) n) s))
   which true false e is = inl (pick_first d false e (some-member d.error a low high is))
   which false true e is = inl (pick_first d true e (some-member d.ordinary a low high is))
   which false false e is =
       let s = some-member d.ordinary a low high is in
-      either (some d.error) (λ t. inr (pick_first d false e (is_true (some d.error) t), e)) (λ n. inl (pick_second d false e (is_false (some d.error) n) s))
+      either (some d.error) (λ t. let o = is_true (some d.error) t in inr (pick_first d false e o, o, e)) (λ n. inl (pick_second d false e (is_false (some d.error) n) s))
 
 -- ---- rivals
 
@@ -91,7 +88,7 @@ waits-own true = refl
 waits-own false = refl
 
 remaining : Dispatcher → Bool → ℕ → ℕ
-remaining d g a = 2 * rivals (present d) (group_of d g).last a + waits (after_error d) g
+remaining d g a = 2 * rivals (present d) (last_of (group_of d g)) a + waits (after_error d) g
 
 -- after a poll of the group, and after one of the other
 remaining-own : (d : Dispatcher) (g : Bool) (a b : ℕ) → remaining (kept_of d g b) g a ≤ 2 * rivals (present d) b a + 1
@@ -99,7 +96,7 @@ unfolding remaining
 remaining-own d true a b = omega (arith, waits-most true true)
 remaining-own d false a b = omega (arith, waits-most false false)
 
-remaining-other : (d : Dispatcher) (g : Bool) (a b : ℕ) → remaining (kept_of d (not g) b) g a ≡ 2 * rivals (present d) (group_of d g).last a
+remaining-other : (d : Dispatcher) (g : Bool) (a b : ℕ) → remaining (kept_of d (not g) b) g a ≡ 2 * rivals (present d) (last_of (group_of d g)) a
 unfolding remaining waits
 remaining-other d true a b = omega arith
 remaining-other d false a b = omega arith
@@ -107,8 +104,8 @@ remaining-other d false a b = omega arith
 -- after a step that is no pick
 remaining-same : (d c : Dispatcher) (g : Bool) (a : ℕ) → ((x : ℕ) → present c x ≡ present d x) → Still d c → remaining c g a ≡ remaining d g a
 unfolding remaining
-remaining-same d c true a same s = rw (s.in-error, s.faulty, rivals-same (present d) (present c) d.error.last a same)
-remaining-same d c false a same s = rw (s.ordinary, s.faulty, rivals-same (present d) (present c) d.ordinary.last a same)
+remaining-same d c true a same s = rw (s.in-error, s.faulty, rivals-same (present d) (present c) (last_of d.error) a same)
+remaining-same d c false a same s = rw (s.ordinary, s.faulty, rivals-same (present d) (present c) (last_of d.ordinary) a same)
 
 -- ---- one pick
 
@@ -119,35 +116,47 @@ member-present d false b e = either (member d.error b) (λ t. rw (is_true (membe
 module _ (d : Dispatcher) (a : ℕ) (low : 0 < a) (high : a < 256) where
   -- it chooses a, or less remains
   Falls : Bool → Turn → Type 0
-  Falls g t = (t.choice ≡ Panel a) ⊎ (remaining t.dispatcher g a < remaining d g a)
+  Falls g t = (t.1 ≡ Some a) ⊎ (remaining t.0 g a < remaining d g a)
 
-  own-falls : (g : Bool) → member (group_of d g) a ≡ true → Falls g (polls d g)
+  -- the poll of a group's next
+  to_next : (g h : Bool) (o p : Option ℕ) → o ≡ p → Falls g (polled_of d h p) → Falls g (polled_of d h o)
+  to_next g h o p e f = subst (λ (q : Option ℕ). Falls g (polled_of d h q)) (sym e) f
+
+  own-poll : (g : Bool) (b : ℕ) → Nearest (group_of d g) a b → Falls g (polled_of d g (Some b))
   unfolding Falls remaining
-  own-falls g is =
-      let b = next_of (group_of d g) in
-      let k = (group_of d g).last in
-      let m = next-nearest (group_of d g) a low high is in
+  own-poll g b m =
+      let k = last_of (group_of d g) in
       either (eqb b a)
-      (λ same. inl (ap Panel (eqb→eq b a same)))
+      (λ same. inl (ap Some (eqb→eq b a same)))
       (λ other.
       let n : way k b ≡ way k a → ⊥ = λ e. eqb-false b a (is_false (eqb b a) other) (way_same k b a m.below high e) in
       let f = rivals-fewer (present d) k a b high m.address m.below (member-present d g b m.passes) (omega arith) in
       inr (omega (arith, remaining-own d g a b)))
 
-  other-falls : (g : Bool) → after_error d ≡ g → Falls g (polls d (not g))
+  own-falls : (g : Bool) → member (group_of d g) a ≡ true → Falls g (polls d g)
+  own-falls g is =
+      let n = next-nearest (group_of d g) a low high is in
+      to_next g g (next_of (group_of d g)) (Some n.0) n.1 (own-poll g n.0 n.2)
+
+  other-poll : (g : Bool) → after_error d ≡ g → (b : ℕ) → Falls g (polled_of d (not g) (Some b))
   unfolding Falls remaining
-  other-falls g e = inr (omega (arith, remaining-other d g a (next_of (group_of d (not g))), ap (λ (f : Bool). waits f g) e, waits-own g))
+  other-poll g e b = inr (omega (arith, remaining-other d g a b, ap (λ (f : Bool). waits f g) e, waits-own g))
+
+  other-falls : (g : Bool) → some (group_of d (not g)) ≡ true → after_error d ≡ g → Falls g (polls d (not g))
+  other-falls g s e =
+      let n = some-next (group_of d (not g)) s in
+      to_next g (not g) (next_of (group_of d (not g))) (Some n.0) n.1 (other-poll g e n.0)
 
   falls : (g : Bool) → member (group_of d g) a ≡ true → Falls g (pick_of d)
   falls g is =
       ⊎_elim
       (λ e. subst (Falls g) (sym e) (own-falls g is))
-      (λ w. subst (Falls g) (sym w.0) (other-falls g w.1))
+      (λ w. subst (Falls g) (sym w.0) (other-falls g w.1 w.2))
       (which d a low high g (after_error d) refl is)
 
 -- ---- the list
 
-later : (m a : ℕ) (c : Choice) (cs : List Choice) → PolledWithin m a cs → PolledWithin (suc m) a (c ∷ cs)
+later : (m a : ℕ) (c : Option ℕ) (cs : List (Option ℕ)) → PolledWithin m a cs → PolledWithin (suc m) a (c ∷ cs)
 later m a c cs w = (suc w.0, omega arith, w.2)
 
 reach : (g : Bool) (a m : ℕ) (ss : List Step) (d : Dispatcher) → 0 < a → a < 256 → present d a ≡ true → in_error d a ≡ g → Steady a d ss →
@@ -158,7 +167,7 @@ reach g a zero (picks ∷ ss) d low high is e st h j = absurd (omega arith)
 reach g a (suc m) (picks ∷ ss) d low high is e st h j =
     ⊎_elim
     (λ c. (0, omega arith, c))
-    (λ f. later m a (pick_of d).choice (choices (after d picks) ss)
+    (λ f. later m a (pick_of d).1 (choices (after d picks) ss)
     (reach g a m ss (after d picks) low high (pick-present d a ∙ is) (pick-error d a ∙ e) st.2 (omega arith) (omega arith)))
     (falls d a low high g (own d a g is e))
 reach g a m (reports b x ∷ ss) d low high is e st h j =
@@ -174,7 +183,7 @@ unfolding remaining
 promise d a ss t st h =
     let r = registered-is d a t in
     reach (in_error d a) a (2 * panels d) ss d r.low (omega arith) r.is refl st
-    (omega (arith, rivals-most (present d) (group_of d (in_error d a)).last a r.low (omega arith) r.is, waits-most (after_error d) (in_error d a)))
+    (omega (arith, rivals-most (present d) (last_of (group_of d (in_error d a))) a r.low (omega arith) r.is, waits-most (after_error d) (in_error d a)))
     h
 
 -- ---- picks and reports alone

@@ -1,22 +1,22 @@
 -- The sentences of K12 beside the promise, proved. Of every run: the groups have no panel in common, and only addresses from 1 to 247 are in them.
-use Rattle.std.specs.Prelude.{◌≡◌, refl, Bool, true, false, not, cond, ◌&&◌, ◌||◌, List, [], ◌∷◌, ℕ, zero, suc, ◌-◌, ◌/◌, ◌%◌, ◌≤◌, ◌<◌, get_or, replicate, T, leb, eqb}
-use Rattle.std.proofs.Common.{sym, ◌∙◌, ap, arith, eqb→eq, leb→le, eq-eqb, leb-false}
+use Rattle.std.specs.Prelude.{◌≡◌, refl, Bool, true, false, not, cond, ◌&&◌, ◌||◌, List, [], ◌∷◌, ℕ, Option, None, Some, zero, suc, ◌-◌, ◌/◌, ◌%◌, ◌≤◌, ◌<◌, get_or, replicate, T, leb, eqb}
+use Rattle.std.proofs.Common.{sym, ◌∙◌, ap, arith, eqb→eq, leb→le, leb-false}
 use Rattle.std.proofs.Math.Dec.{nleb→lt}
+use Rattle.std.specs.Option.{is_some}
 use Rattle.std.proofs.lemmas.Bool.{not-true, eqb-false}
+use Rattle.std.proofs.lemmas.Option.{none-some, same_Some}
 use Rattle.integers.specs.ChoiceLaws.{by-test, either, is_true, is_false, true-is}
 use Rattle.integers.specs.TestLaws.{and_both, or-both, or-true, clash}
 use Rattle.bits.specs.Bits.{bit_at}
 use Rattle.bits.proofs.BitLaws.{bit-none}
-use Rattle.addresses.specs.Addresses.{holds}
+use Rattle.addresses.specs.declared.Addresses.{Addresses}
+use Rattle.addresses.specs.Addresses.{nothing, holds}
 use Rattle.addresses.specs.Search.{lowest_above}
-use Rattle.addresses.proofs.SearchLaws.{lowest-none, lowest-is, count_same, count-more, count_none, count-zero}
+use Rattle.addresses.proofs.SearchLaws.{by_found, lowest-none, lowest-is, count_same, count-more, count_none, count-zero}
 use Rattle.dispatcher.specs.declared.Group.{Group}
 use Rattle.dispatcher.specs.declared.Dispatcher.{Dispatcher}
-use Rattle.dispatcher.specs.declared.Answer.{Answer}
-use Rattle.dispatcher.specs.declared.Turn.{Turn}
-use Rattle.dispatcher.specs.declared.Choice.TheVariants.{Panel, Nobody}
-use Rattle.dispatcher.specs.Dispatch.{outside, present, registered, in_error, member, some, panels, next_of, after_error, error_turn, polls, with_panel, with_report, fresh_of, register_of, report_of, pick_of}
-use Rattle.dispatcher.proofs.TurnLaws.{some-member, next-higher, next-lowest, pick-nobody}
+use Rattle.dispatcher.specs.Dispatch.{outside, present, registered, in_error, member, some, panels, last_of, next_of, after_error, error_turn, Answer, Turn, polled_of, polls, group_of, with_panel, with_report, fresh_of, register_of, report_of, pick_of}
+use Rattle.dispatcher.proofs.TurnLaws.{some-member, next-higher, next-lowest, next-some, some-next, pick-nobody}
 use Rattle.dispatcher.proofs.CallLaws.{inside, in-range}
 use Rattle.waiting.specs.Steps.{Step, picks, reports, registers, after, ran, no_pick}
 use Rattle.waiting.specs.Rules.{NeverTwo, Turns, NoneOnlySo, ChosenRegistered, RegisterNumbers, ReportNumbers, Numbers, AtMost32, UntilReported, NobodyLeaves}
@@ -60,13 +60,15 @@ numbers d a = (register-numbers d a, report-numbers d a)
 
 -- ---- a group with a member has a next one, and one without has none
 
-next-member : (g : Group) → some g ≡ true → (0 < next_of g) × (next_of g < 256) × (member g (next_of g) ≡ true)
-next-member g s =
-    let low = lowest_above (member g) 0 in
-    let n : low ≡ 0 → ⊥ = λ e. clash (ap not (eq-eqb low 0 e)) s in
-    let r = lowest-is (member g) 1 255 low refl (omega arith) in
+next-member : (g : Group) (b : ℕ) → next_of g ≡ Some b → (0 < b) × (b < 256) × (member g b ≡ true)
+next-member g b e =
+    by_found (lowest_above (member g) 0)
+    (λ n. absurd (clash (ap is_some n) (next-some g b e)))
+    (λ low f. let r = lowest-is (member g) 1 255 low f in
     let m = next-nearest g low (omega arith) (omega arith) r.passes in
-    (m.address, m.below, m.passes)
+    let same : m.0 ≡ b = same_Some m.0 b (sym m.1 ∙ e) in
+    let n = m.2 in
+    (omega (arith, n.address), omega (arith, n.below), ap (member g) (sym same) ∙ n.passes))
 
 none-member : (g : Group) → some g ≡ false → (x : ℕ) → 0 < x → x < 256 → member g x ≡ false
 none-member g n x low high =
@@ -77,34 +79,49 @@ none-member g n x low high =
 -- ---- "Each group takes turns"
 
 module _ (g : Group) where
-  abbrev up : ℕ
-  up = lowest_above (member g) g.last
+  abbrev k : ℕ
+  k = last_of g
 
-  turns-higher : (x : ℕ) → x < 256 → T (member g x) → g.last < x → T (member g (next_of g)) × (g.last < next_of g) × (next_of g ≤ x)
+  abbrev up : Option ℕ
+  up = lowest_above (member g) k
+
+  turns-higher : (x : ℕ) → x < 256 → T (member g x) → k < x → (b : ℕ) × (next_of g ≡ Some b) × T (member g b) × (k < b) × (b ≤ x)
   turns-higher x high t above =
       let is = is_true (member g x) t in
-      let n : up ≡ 0 → ⊥ = λ e. clash (lowest-none (member g) (suc g.last) (255 - g.last) (omega arith) e x (omega arith) (omega arith)) is in
-      let r = lowest-is (member g) (suc g.last) (255 - g.last) up refl (omega arith) in
+      by_found up
+      (λ e. absurd (clash (lowest-none (member g) (suc k) (255 - k) e x (omega arith) (omega arith)) is))
+      (λ b e. let r = lowest-is (member g) (suc k) (255 - k) b e in
       let h = lowest-at_most r x (omega arith) is in
-      rw (next-higher g n) (true-is (member g up) r.passes, omega arith, h)
+      (b, next-higher g b e, true-is (member g b) r.passes, omega arith, h))
 
-  turns-lowest : ((x : ℕ) → x < 256 → T (member g x) → x ≤ g.last) →
-      (x : ℕ) → 0 < x → x < 256 → T (member g x) → T (member g (next_of g)) × (0 < next_of g) × (next_of g ≤ x)
+  turns-lowest : ((x : ℕ) → x < 256 → T (member g x) → x ≤ k) →
+      (x : ℕ) → 0 < x → x < 256 → T (member g x) → (b : ℕ) × (next_of g ≡ Some b) × T (member g b) × (0 < b) × (b ≤ x)
   turns-lowest none x low high t =
-      let first = lowest_above (member g) 0 in
       let is = is_true (member g x) t in
-      let e : up ≡ 0 = either (eqb up 0) (λ z. eqb→eq up 0 z)
-      (λ f. let n = eqb-false up 0 (is_false (eqb up 0) f) in
-      let r = lowest-is (member g) (suc g.last) (255 - g.last) up refl (omega arith) in
-      let h = none up (omega arith) (true-is (member g up) r.passes) in
-      absurd (omega arith)) in
-      let m : first ≡ 0 → ⊥ = λ z. clash (lowest-none (member g) 1 255 (omega arith) z x (omega arith) (omega arith)) is in
-      let r = lowest-is (member g) 1 255 first refl (omega arith) in
+      by_found (lowest_above (member g) 0)
+      (λ z. absurd (clash (lowest-none (member g) 1 255 z x (omega arith) (omega arith)) is))
+      (λ b f. let r = lowest-is (member g) 1 255 b f in
       let h = lowest-at_most r x (omega arith) is in
-      rw (next-lowest g e) (true-is (member g first) r.passes, omega arith, h)
+      let e : up ≡ None = by_found up (λ z. z)
+      (λ c i. let q = lowest-is (member g) (suc k) (255 - k) c i in
+      let h = none c (omega arith) (true-is (member g c) q.passes) in
+      absurd (omega arith)) in
+      (b, next-lowest g e ∙ f, true-is (member g b) r.passes, omega arith, h))
 
 pub turns : Turns
 turns g = record { higher = turns-higher g; lowest = turns-lowest g }
+
+-- a turn of those in error: there is one, and no ordinary one after a poll of one in error
+turn-halves : (d : Dispatcher) → error_turn d ≡ true → (some d.error ≡ true) × (after_error d ≡ true → some d.ordinary ≡ false)
+unfolding error_turn
+turn-halves d e =
+    let h = and_both (some d.error) (not (after_error d && some d.ordinary)) e in
+    (h.0, λ f. rw f at (not-true (after_error d && some d.ordinary) h.1))
+
+-- what a group that polls chooses is its next
+chosen-next : (d : Dispatcher) (g : Bool) (o c : Option ℕ) → (polled_of d g o).1 ≡ c → o ≡ c
+chosen-next d g None c e = e
+chosen-next d g (Some a) c e = e
 
 -- ---- "A pick with no panel registered answers none"
 
@@ -112,38 +129,45 @@ module _ (d : Dispatcher) where
   none_in : (g : Group) → ((x : ℕ) → 0 < x → x < 256 → member g x ≡ false) → some g ≡ false
   none_in g none =
       either (some g)
-      (λ t. let m = next-member g (is_true (some g) t) in absurd (clash (none (next_of g) m.0 m.1) m.2))
+      (λ t. let n = some-next g (is_true (some g) t) in
+      let m = next-member g n.0 n.1 in
+      absurd (clash (none n.0 m.0 m.1) m.2))
       (λ f. is_false (some g) f)
 
   absent : panels d ≡ 0 → (x : ℕ) → 0 < x → x < 256 → (member d.error x ≡ false) × (member d.ordinary x ≡ false)
   absent e x low high = or-both (member d.error x) (member d.ordinary x) (count_none (present d) 1 255 e x (omega arith) (omega arith))
 
-  none_then : panels d ≡ 0 → (pick_of d).choice ≡ Nobody
+  none_then : panels d ≡ 0 → (pick_of d).1 ≡ None
   none_then e =
-      ap (λ (t : Turn). t.choice)
+      ap (λ (t : Turn). t.1)
       (pick-nobody d (none_in d.error (λ x l h. (absent e x l h).0)) (none_in d.ordinary (λ x l h. (absent e x l h).1)))
 
-  -- a panel is not nobody
-  chosen : (b : ℕ) → Panel b ≡ Nobody → ⊥
-  chosen b e = let z : ◌≡◌ {A = ℕ} 0 1 = cc in omega arith
+  -- a group with a panel polls somebody
+  chosen : (g : Bool) → some (group_of d g) ≡ true → (polls d g).1 ≡ None → ⊥
+  chosen g s e = let n = some-next (group_of d g) s in none-some n.0 (sym (chosen-next d g (next_of (group_of d g)) None e) ∙ n.1)
+
+  -- no turn of those in error, with no ordinary one: there is none in error
+  no-error : some d.ordinary ≡ false → error_turn d ≡ false → some d.error ≡ false
+  unfolding error_turn
+  no-error = by-halves (some d.error) (after_error d) (some d.ordinary)
+    where
+      by-halves : (s f o : Bool) → o ≡ false → (s && not (f && o)) ≡ false → s ≡ false
+      by-halves true true o e h = absurd (clash h (rw e))
+      by-halves true false o e h = h
+      by-halves false f o e h = refl
 
   -- where a pick answers none, no group has a panel
-  no-groups : (pick_of d).choice ≡ Nobody → (some d.error ≡ false) × (some d.ordinary ≡ false)
-  unfolding pick_of error_turn
+  no-groups : (pick_of d).1 ≡ None → (some d.error ≡ false) × (some d.ordinary ≡ false)
+  unfolding pick_of
   no-groups =
-      by-test (error_turn d) _ _ Q (λ _ e. absurd (chosen _ e))
-      (λ f. by-test (some d.ordinary) _ _ Q (λ _ e. absurd (chosen _ e))
-      (λ o _. (no-error (some d.error) (after_error d) (some d.ordinary) (is_false (some d.ordinary) o) (is_false (error_turn d) f), is_false (some d.ordinary) o)))
+      by-test (error_turn d) _ _ Q (λ t e. absurd (chosen true (turn-halves d (is_true (error_turn d) t)).0 e))
+      (λ f. by-test (some d.ordinary) _ _ Q (λ s e. absurd (chosen false (is_true (some d.ordinary) s) e))
+      (λ o _. (no-error (is_false (some d.ordinary) o) (is_false (error_turn d) f), is_false (some d.ordinary) o)))
     where
       Q : Turn → Type 0
-      Q t = t.choice ≡ Nobody → (some d.error ≡ false) × (some d.ordinary ≡ false)
+      Q t = t.1 ≡ None → (some d.error ≡ false) × (some d.ordinary ≡ false)
 
-      no-error : (s f o : Bool) → o ≡ false → (s && not (f && o)) ≡ false → s ≡ false
-      no-error true true o e h = absurd (clash h (rw e))
-      no-error true false o e h = h
-      no-error false f o e h = refl
-
-  none_only : (pick_of d).choice ≡ Nobody → panels d ≡ 0
+  none_only : (pick_of d).1 ≡ None → panels d ≡ 0
   none_only e =
       let n = no-groups e in
       count-zero (present d) 1 255 (λ x l h. rw (none-member d.error n.0 x l (omega arith), none-member d.ordinary n.1 x l (omega arith)))
@@ -175,11 +199,11 @@ module _ (d c : Dispatcher) (a : ℕ) (p : Parted d)
 parted-after : (d : Dispatcher) (s : Step) → Whole d → Parted d → Parted (after d s)
 unfolding after report_of
 parted-after d picks w p = record {
-  apart = λ x e. ap (λ (ws : List ℕ). holds ws x) (pick_same d).ordinary ∙ p.apart x (sym (pick-error d x) ∙ e);
+  apart = λ x e. ap (λ (s : Addresses). holds s x) (pick_same d).ordinary ∙ p.apart x (sym (pick-error d x) ∙ e);
   named = λ x e. p.named x (sym (pick-present d x) ∙ e);
 }
 parted-after d (reports a e) w p =
-    by-test (registered d a) _ _ (λ (r : Answer). Parted r.dispatcher)
+    by-test (registered d a) _ _ (λ (r : Answer). Parted r.0)
     (λ t. let r = registered-is d a t in
     let h : a < 256 = omega arith in
     parted-but d (with_report d a e) a p (λ x n. report-error-other d w a h e x n) (λ x n. report-ordinary-other d w a h e x n)
@@ -202,7 +226,7 @@ zeros-at zero i = refl
 zeros-at (suc n) zero = refl
 zeros-at (suc n) (suc i) = zeros-at n i
 
-empty-member : (x : ℕ) → holds (replicate 4 0) x ≡ false
+empty-member : (x : ℕ) → holds nothing x ≡ false
 unfolding holds
 empty-member x = ap (λ (w : ℕ). eqb (bit_at (x % 64) w) 1) (zeros-at 4 (x / 64)) ∙ ap (λ (b : ℕ). eqb b 1) (bit-none (x % 64))
 
@@ -213,31 +237,25 @@ parted-ran ss =
 
 -- ---- what a pick chooses
 
--- a turn of those in error: there is one, and no ordinary one after a poll of one in error
-turn-halves : (d : Dispatcher) → error_turn d ≡ true → (some d.error ≡ true) × (after_error d ≡ true → some d.ordinary ≡ false)
-unfolding error_turn
-turn-halves d e =
-    let h = and_both (some d.error) (not (after_error d && some d.ordinary)) e in
-    (h.0, λ f. rw f at (not-true (after_error d && some d.ordinary) h.1))
-
 -- the poll of a group's next panel
 pub data Polled (d : Dispatcher) (a : ℕ) : Type 0 where
   in-error : error_turn d ≡ true → member d.error a ≡ true → Polled d a
   ordinary : error_turn d ≡ false → member d.ordinary a ≡ true → Polled d a
 
-polled-by : (d : Dispatcher) (a : ℕ) → (pick_of d).choice ≡ Panel a → Polled d a
+polled-by : (d : Dispatcher) (a : ℕ) → (pick_of d).1 ≡ Some a → Polled d a
 unfolding pick_of
 polled-by d a =
     by-test (error_turn d) _ _ Q
-    (λ t e. let i : next_of d.error ≡ a = cc in
-    in-error (is_true (error_turn d) t) (ap (member d.error) (sym i) ∙ (next-member d.error (turn-halves d (is_true (error_turn d) t)).0).2))
+    (λ t e. in-error (is_true (error_turn d) t) (passes true e))
     (λ f. by-test (some d.ordinary) _ _ Q
-    (λ s e. let i : next_of d.ordinary ≡ a = cc in
-    ordinary (is_false (error_turn d) f) (ap (member d.ordinary) (sym i) ∙ (next-member d.ordinary (is_true (some d.ordinary) s)).2))
-    (λ _ e. let z : ◌≡◌ {A = ℕ} 0 1 = cc in absurd (omega arith)))
+    (λ s e. ordinary (is_false (error_turn d) f) (passes false e))
+    (λ _ e. absurd (none-some a e)))
   where
     Q : Turn → Type 0
-    Q t = t.choice ≡ Panel a → Polled d a
+    Q t = t.1 ≡ Some a → Polled d a
+
+    passes : (g : Bool) → (polls d g).1 ≡ Some a → member (group_of d g) a ≡ true
+    passes g e = (next-member (group_of d g) a (chosen-next d g (next_of (group_of d g)) (Some a) e)).2
 
 pub chosen-registered : ChosenRegistered
 chosen-registered before a e = by-poll (polled-by d a e)
@@ -262,17 +280,18 @@ between-still (reports a e ∷ ss) d b = between-still ss (after d (reports a e)
 between-still (registers a ∷ ss) d b = between-still ss (after d (registers a)) b ∙ (register-still d a).faulty
 
 -- a poll of a panel in error is a turn of those in error
-error-turn : (d : Dispatcher) (a : ℕ) → Parted d → (pick_of d).choice ≡ Panel a → T (in_error d a) → error_turn d ≡ true
+error-turn : (d : Dispatcher) (a : ℕ) → Parted d → (pick_of d).1 ≡ Some a → T (in_error d a) → error_turn d ≡ true
 error-turn d a p e i = by-poll (polled-by d a e)
   where
     by-poll : Polled d a → error_turn d ≡ true
     by-poll (in-error t _) = t
     by-poll (ordinary _ m) = absurd (clash (p.apart a (is_true (in_error d a) i)) m)
 
-after-error : (d : Dispatcher) → error_turn d ≡ true → (after d picks).faulty ≡ 1
+after-error : (d : Dispatcher) → error_turn d ≡ true → (after d picks).faulty ≡ true
 unfolding after pick_of
 after-error d e =
-    ap (λ (b : Bool). (cond b (polls d true) (cond (some d.ordinary) (polls d false) (record { dispatcher = d; choice = Nobody }))).dispatcher.faulty) e
+    ap (λ (b : Bool). (cond b (polls d true) (cond (some d.ordinary) (polls d false) (d, None))).0.faulty) e
+    ∙ ap (λ (o : Option ℕ). (polled_of d true o).0.faulty) (some-next d.error (turn-halves d e).0).1
 
 pub never-two : NeverTwo
 never-two before between a b quiet e i f j x t =
@@ -281,7 +300,7 @@ never-two before between a b quiet e i f j x t =
     let w = whole-ran before in
     let p = parted-ran before in
     let q = parted-from between (after d picks) (whole-after d picks w) (parted-after d picks w p) in
-    let fault = ap (λ (n : ℕ). eqb n 1) (between-still between (after d picks) quiet ∙ after-error d (error-turn d a p e i)) in
+    let fault = between-still between (after d picks) quiet ∙ after-error d (error-turn d a p e i) in
     let none = (turn-halves c (error-turn c b q f j)).1 fault in
     let r = registered-is c x t in
     either (in_error c x) (λ y. y)

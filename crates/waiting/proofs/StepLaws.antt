@@ -1,16 +1,16 @@
 -- What a step changes: of what the groups polled last, of their sets, and of who is registered and in error.
-use Rattle.std.specs.Prelude.{◌≡◌, refl, Bool, true, false, not, cond, ◌||◌, List, [], ◌∷◌, ℕ, ◌≤◌, ◌<◌, T, leb, eqb, length}
+use Rattle.std.specs.Prelude.{◌≡◌, refl, Bool, true, false, not, cond, ◌||◌, List, [], ◌∷◌, ℕ, Option, None, Some, ◌≤◌, ◌<◌, T, leb, eqb, length}
 use Rattle.std.proofs.Common.{sym, ◌∙◌, ap, arith, eqb→eq, length-set}
 use Rattle.std.proofs.lemmas.Bool.{eqb-false, not-true}
 use Rattle.integers.specs.ChoiceLaws.{by-test, either, is_true, is_false}
 use Rattle.integers.specs.TestLaws.{and_both}
+use Rattle.addresses.specs.declared.Addresses.{Addresses}
 use Rattle.addresses.specs.Addresses.{holds, including, excluding}
 use Rattle.addresses.proofs.AddressLaws.{including-same, including-other, excluding-same, excluding-other}
 use Rattle.dispatcher.specs.declared.Group.{Group}
 use Rattle.dispatcher.specs.declared.Dispatcher.{Dispatcher}
-use Rattle.dispatcher.specs.declared.Answer.{Answer}
-use Rattle.dispatcher.specs.declared.Turn.{Turn}
-use Rattle.dispatcher.specs.Dispatch.{outside, present, registered, in_error, member, some, panels, error_turn, entered, left, with_panel, with_report, fresh_of, answer, register_of, report_of, pick_of}
+use Rattle.dispatcher.specs.declared.Refusal.TheVariants.{NoPanel}
+use Rattle.dispatcher.specs.Dispatch.{outside, present, registered, in_error, member, some, panels, next_of, error_turn, entered, left, with_panel, with_report, fresh_of, Answer, Turn, refused, taken, polled_of, register_of, report_of, pick_of}
 use Rattle.dispatcher.proofs.CallLaws.{in-range}
 use Rattle.waiting.specs.Steps.{Step, picks, reports, registers, after, ran}
 
@@ -43,7 +43,7 @@ still-with d a false = record { in-error = refl; ordinary = refl; faulty = refl 
 
 pub report-still : (d : Dispatcher) (b : ℕ) (e : Bool) → Still d (after d (reports b e))
 unfolding after report_of
-report-still d b e = by-test (registered d b) _ _ (λ (r : Answer). Still d r.dispatcher) (λ _. still-with d b e) (λ _. still d)
+report-still d b e = by-test (registered d b) _ _ (λ (r : Answer). Still d r.0) (λ _. still-with d b e) (λ _. still d)
 
 -- a registration goes one of these ways: it changes nothing, or a panel that was not there enters
 pub register-ways : (d : Dispatcher) (a : ℕ) (Q : Dispatcher → Type 0) → Q d →
@@ -56,7 +56,7 @@ register-ways d a Q same new =
     (λ m. new (is_false (outside a) i) (is_false (present d a) p) (is_false (leb 32 (panels d)) m))))
   where
     R : Answer → Type 0
-    R r = Q r.dispatcher
+    R r = Q r.0
 
 pub register-still : (d : Dispatcher) (b : ℕ) → Still d (after d (registers b))
 register-still d b = register-ways d b (Still d) (still d) (λ _ _ _. record { in-error = refl; ordinary = refl; faulty = refl })
@@ -67,14 +67,22 @@ pub record Same (d c : Dispatcher) : Type 0 where
   pub in-error : c.error.members ≡ d.error.members
   pub ordinary : c.ordinary.members ≡ d.ordinary.members
 
+same : (d : Dispatcher) → Same d d
+same d = record { in-error = refl; ordinary = refl }
+
+polled_same : (d : Dispatcher) (g : Bool) (o : Option ℕ) → Same d (polled_of d g o).0
+polled_same d g None = same d
+polled_same d true (Some a) = record { in-error = refl; ordinary = refl }
+polled_same d false (Some a) = record { in-error = refl; ordinary = refl }
+
 pub pick_same : (d : Dispatcher) → Same d (after d picks)
 unfolding after pick_of
 pick_same d =
-    by-test (error_turn d) _ _ Q (λ _. record { in-error = refl; ordinary = refl })
-    (λ _. by-test (some d.ordinary) _ _ Q (λ _. record { in-error = refl; ordinary = refl }) (λ _. record { in-error = refl; ordinary = refl }))
+    by-test (error_turn d) _ _ Q (λ _. polled_same d true (next_of d.error))
+    (λ _. by-test (some d.ordinary) _ _ Q (λ _. polled_same d false (next_of d.ordinary)) (λ _. same d))
   where
     Q : Turn → Type 0
-    Q t = Same d t.dispatcher
+    Q t = Same d t.0
 
 same-present : (d c : Dispatcher) → Same d c → (x : ℕ) → present c x ≡ present d x
 same-present d c s x = rw (s.in-error, s.ordinary)
@@ -83,21 +91,21 @@ pub pick-present : (d : Dispatcher) (x : ℕ) → present (after d picks) x ≡ 
 pick-present d x = same-present d (after d picks) (pick_same d) x
 
 pub pick-error : (d : Dispatcher) (x : ℕ) → in_error (after d picks) x ≡ in_error d x
-pick-error d x = ap (λ (ws : List ℕ). holds ws x) (pick_same d).in-error
+pick-error d x = ap (λ (s : Addresses). holds s x) (pick_same d).in-error
 
 -- ---- the sets of a dispatcher are whole: four words each, as every value of the struct has them
 
 pub record Whole (d : Dispatcher) : Type 0 where
-  pub in-error : length d.error.members ≡ 4
-  pub ordinary : length d.ordinary.members ≡ 4
+  pub in-error : length d.error.members.words ≡ 4
+  pub ordinary : length d.ordinary.members.words ≡ 4
 
-including-length : (ws : List ℕ) (a : ℕ) → length (including ws a) ≡ length ws
+including-length : (s : Addresses) (a : ℕ) → length (including s a).words ≡ length s.words
 unfolding including
-including-length ws a = simp length-set
+including-length s a = simp length-set
 
-excluding-length : (ws : List ℕ) (a : ℕ) → length (excluding ws a) ≡ length ws
+excluding-length : (s : Addresses) (a : ℕ) → length (excluding s a).words ≡ length s.words
 unfolding excluding
-excluding-length ws a = simp length-set
+excluding-length s a = simp length-set
 
 whole-report : (d : Dispatcher) (a : ℕ) (e : Bool) → Whole d → Whole (with_report d a e)
 whole-report d a true w = record { in-error = including-length _ a ∙ w.in-error; ordinary = excluding-length _ a ∙ w.ordinary }
@@ -105,8 +113,8 @@ whole-report d a false w = record { in-error = excluding-length _ a ∙ w.in-err
 
 pub whole-after : (d : Dispatcher) (s : Step) → Whole d → Whole (after d s)
 unfolding after report_of
-whole-after d picks w = record { in-error = ap length (pick_same d).in-error ∙ w.in-error; ordinary = ap length (pick_same d).ordinary ∙ w.ordinary }
-whole-after d (reports a e) w = by-test (registered d a) _ _ (λ (r : Answer). Whole r.dispatcher) (λ _. whole-report d a e w) (λ _. w)
+whole-after d picks w = record { in-error = ap (λ (s : Addresses). length s.words) (pick_same d).in-error ∙ w.in-error; ordinary = ap (λ (s : Addresses). length s.words) (pick_same d).ordinary ∙ w.ordinary }
+whole-after d (reports a e) w = by-test (registered d a) _ _ (λ (r : Answer). Whole r.0) (λ _. whole-report d a e w) (λ _. w)
 whole-after d (registers a) w = register-ways d a Whole w (λ _ _ _. record { in-error = w.in-error; ordinary = including-length _ a ∙ w.ordinary })
 
 whole_from : (ss : List Step) (d : Dispatcher) → Whole d → Whole (ran d ss)
@@ -122,7 +130,7 @@ whole-ran ss = whole_from ss fresh_of whole_fresh
 
 -- ---- who is in which group after a panel entered or left
 
-module _ (g : Group) (w : length g.members ≡ 4) (a : ℕ) (high : a < 256) where
+module _ (g : Group) (w : length g.members.words ≡ 4) (a : ℕ) (high : a < 256) where
   pub entered-same : member (entered g a) a ≡ true
   entered-same = including-same g.members w a high
 
@@ -163,7 +171,7 @@ or-not false = refl
 pub report-present : (d : Dispatcher) → Whole d → (a : ℕ) (e : Bool) (x : ℕ) → present (after d (reports a e)) x ≡ present d x
 unfolding after report_of
 report-present d w a e x =
-    by-test (registered d a) _ _ (λ (r : Answer). present r.dispatcher x ≡ present d x)
+    by-test (registered d a) _ _ (λ (r : Answer). present r.0 x ≡ present d x)
     (λ t. let r = registered-is d a t in
     let h : a < 256 = omega arith in
     either (eqb x a)
@@ -177,12 +185,12 @@ pub report-own : (d : Dispatcher) → Whole d → (a : ℕ) (e : Bool) → T (re
 unfolding after report_of
 report-own d w a e t =
     let r = registered-is d a t in
-    ap (λ (b : Bool). in_error (cond b (answer (with_report d a e) 0) (answer d 32)).dispatcher a) (is_true (registered d a) t) ∙ report-error d w a (omega arith) e
+    ap (λ (b : Bool). in_error (cond b (taken (with_report d a e)) (refused d NoPanel)).0 a) (is_true (registered d a) t) ∙ report-error d w a (omega arith) e
 
 pub report-others : (d : Dispatcher) → Whole d → (a : ℕ) (e : Bool) (x : ℕ) → (x ≡ a → ⊥) → in_error (after d (reports a e)) x ≡ in_error d x
 unfolding after report_of
 report-others d w a e x n =
-    by-test (registered d a) _ _ (λ (r : Answer). in_error r.dispatcher x ≡ in_error d x)
+    by-test (registered d a) _ _ (λ (r : Answer). in_error r.0 x ≡ in_error d x)
     (λ t. let r = registered-is d a t in report-error-other d w a (omega arith) e x n)
     (λ _. refl)
 
@@ -190,7 +198,7 @@ report-others d w a e x n =
 pub report-keeps : (d : Dispatcher) → Whole d → (a b : ℕ) (e g : Bool) → (b ≡ a → e ≡ g) → in_error d a ≡ g → in_error (after d (reports b e)) a ≡ g
 unfolding after report_of
 report-keeps d w a b e g f h =
-    by-test (registered d b) _ _ (λ (r : Answer). in_error r.dispatcher a ≡ g)
+    by-test (registered d b) _ _ (λ (r : Answer). in_error r.0 a ≡ g)
     (λ t. let r = registered-is d b t in
     let l : b < 256 = omega arith in
     either (eqb a b)

@@ -1,14 +1,13 @@
 -- The order in which a group meets the addresses: those above the one that it polled last, then from the lowest on. The group's next panel is its nearest
 -- member in that order; and in the order behind a panel, all that was before another panel still is, but for the one that was polled.
-use Rattle.std.specs.Prelude.{◌≡◌, refl, Bool, true, cond, ℕ, suc, ◌+◌, ◌-◌, ◌≤◌, ◌<◌, ltb, eqb}
-use Rattle.std.proofs.Common.{sym, subst, arith, eqb→eq, ltb-true, ltb-false}
-use Rattle.std.proofs.lemmas.Bool.{eqb-false}
+use Rattle.std.specs.Prelude.{◌≡◌, Bool, true, cond, ℕ, Option, None, Some, suc, ◌+◌, ◌-◌, ◌≤◌, ◌<◌, ltb}
+use Rattle.std.proofs.Common.{◌∙◌, arith, ltb-true, ltb-false}
 use Rattle.integers.specs.ChoiceLaws.{either, is_true, is_false}
 use Rattle.integers.specs.TestLaws.{clash}
 use Rattle.addresses.specs.Search.{lowest_above}
-use Rattle.addresses.proofs.SearchLaws.{lowest-none, Lowest, lowest-is}
+use Rattle.addresses.proofs.SearchLaws.{by_found, lowest-none, Lowest, lowest-is}
 use Rattle.dispatcher.specs.declared.Group.{Group}
-use Rattle.dispatcher.specs.Dispatch.{member, next_of}
+use Rattle.dispatcher.specs.Dispatch.{member, last_of, next_of}
 use Rattle.dispatcher.proofs.TurnLaws.{next-higher, next-lowest}
 
 -- ---- the order, as a number: how far x is behind k
@@ -66,48 +65,49 @@ pub record Nearest (g : Group) (a b : ℕ) : Type 0 where
   pub address : 0 < b
   pub below : b < 256
   pub passes : member g b ≡ true
-  pub nearest : way g.last b ≤ way g.last a
+  pub nearest : way (last_of g) b ≤ way (last_of g) a
 
 module _ (g : Group) (a : ℕ) (low : 0 < a) (high : a < 256) (is : member g a ≡ true) where
   abbrev k : ℕ
-  k = g.last
+  k = last_of g
 
-  abbrev up : ℕ
+  abbrev up : Option ℕ
   up = lowest_above (member g) k
 
-  abbrev first : ℕ
+  abbrev first : Option ℕ
   first = lowest_above (member g) 0
 
   -- some member is higher than the last
-  up-nearest : (up ≡ 0 → ⊥) → Nearest g a up
-  up-nearest n =
-      let r = lowest-is (member g) (suc k) (255 - k) up refl (omega arith) in
+  up-nearest : (b : ℕ) → up ≡ Some b → Nearest g a b
+  up-nearest b e =
+      let r = lowest-is (member g) (suc k) (255 - k) b e in
       record {
         address = omega arith;
         below = omega arith;
         passes = r.passes;
         nearest =
-            by_way k up
+            by_way k b
             (λ p q. by_way k a (λ t u. let h = lowest-at_most r a (omega arith) is in omega arith) (λ t u. omega arith))
             (λ p q. absurd (omega arith));
       }
 
   -- none is
-  first-nearest : up ≡ 0 → Nearest g a first
-  first-nearest e =
-      let n : first ≡ 0 → ⊥ = λ z. clash (lowest-none (member g) 1 255 (omega arith) z a (omega arith) (omega arith)) is in
-      let r = lowest-is (member g) 1 255 first refl (omega arith) in
+  first-nearest : up ≡ None → (b : ℕ) → first ≡ Some b → Nearest g a b
+  first-nearest e b f =
+      let r = lowest-is (member g) 1 255 b f in
       let h = lowest-at_most r a (omega arith) is in
-      let m : k < a → ⊥ = λ m. clash (lowest-none (member g) (suc k) (255 - k) (omega arith) e a (omega arith) (omega arith)) is in
+      let m : k < a → ⊥ = λ m. clash (lowest-none (member g) (suc k) (255 - k) e a (omega arith) (omega arith)) is in
       record {
         address = omega arith;
         below = omega arith;
         passes = r.passes;
-        nearest = by_way k first (λ p q. absurd (omega arith)) (λ p q. by_way k a (λ t u. absurd (m t)) (λ t u. omega arith));
+        nearest = by_way k b (λ p q. absurd (omega arith)) (λ p q. by_way k a (λ t u. absurd (m t)) (λ t u. omega arith));
       }
 
-  pub next-nearest : Nearest g a (next_of g)
+  pub next-nearest : (b : ℕ) × (next_of g ≡ Some b) × Nearest g a b
   next-nearest =
-      either (eqb up 0)
-      (λ t. let e = eqb→eq up 0 t in subst (Nearest g a) (sym (next-lowest g e)) (first-nearest e))
-      (λ f. let n = eqb-false up 0 (is_false (eqb up 0) f) in subst (Nearest g a) (sym (next-higher g n)) (up-nearest n))
+      by_found up
+      (λ e. by_found first
+      (λ z. absurd (clash (lowest-none (member g) 1 255 z a (omega arith) (omega arith)) is))
+      (λ b f. (b, next-lowest g e ∙ f, first-nearest e b f)))
+      (λ b f. (b, next-higher g b f, up-nearest b f))

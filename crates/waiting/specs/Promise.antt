@@ -1,10 +1,8 @@
 -- Paper 02, K12, THE PROMISE, stated: "With n panels registered and nobody joining, one that waits is polled within 2n picks if it stays in its group,
 -- however the others report". This file is definitions only; `promise` and `quiet-promise` of PromiseLaws prove it, `tight` of Cases shows that 2n is needed.
-use Rattle.std.specs.Prelude.{◌≡◌, Bool, true, false, not, ◌&&◌, ◌||◌, List, [], ◌∷◌, ℕ, ◌+◌, ◌*◌, ◌≤◌, T, eqb, length, get_or}
+use Rattle.std.specs.Prelude.{◌≡◌, Bool, true, false, not, ◌&&◌, ◌||◌, List, [], ◌∷◌, ℕ, Option, None, Some, ◌+◌, ◌*◌, ◌≤◌, T, eqb, length, get_or}
 use Rattle.std.specs.Bool.{beq}
 use Rattle.dispatcher.specs.declared.Dispatcher.{Dispatcher}
-use Rattle.dispatcher.specs.declared.Choice.{Choice}
-use Rattle.dispatcher.specs.declared.Choice.TheVariants.{Panel, Nobody}
 use Rattle.dispatcher.specs.Dispatch.{fresh_of, present, registered, in_error, panels}
 use Rattle.waiting.specs.Steps.{Step, picks, reports, registers, after, ran, choices}
 
@@ -14,8 +12,8 @@ Steady a d [] = Unit {0}
 Steady a d (s ∷ ss) = ((x : ℕ) → present (after d s) x ≡ present d x) × (in_error (after d s) a ≡ in_error d a) × Steady a (after d s) ss
 
 -- "polled within m picks": pick k + 1 chooses the panel at a, and is one of the first m
-abbrev pub PolledWithin : ℕ → ℕ → List Choice → Type 0
-PolledWithin m a cs = (k : ℕ) × (k + 1 ≤ m) × (get_or cs k Nobody ≡ Panel a)
+abbrev pub PolledWithin : ℕ → ℕ → List (Option ℕ) → Type 0
+PolledWithin m a cs = (k : ℕ) × (k + 1 ≤ m) × (get_or cs k None ≡ Some a)
 
 -- THE PROMISE, of every dispatcher and every list of steps with 2n picks
 abbrev pub Promise : Type 0

@@ -1,14 +1,10 @@
--- `poll_dialog::report` meets its contract: what `report` of the dispatcher answers is told and kept.
+-- `poll_dialog::report` meets its contract: what `report` of the dispatcher answers is told.
+use Rattle.dispatcher.specs.Dispatch.{Answer, number_of}
+use Rattle.std.proofs.Common.{ap, sym}
 use Rattle.text.specs.Plain.{spoken}
 use Rattle.poll_dialog.specs.Dialog.{report_text}
-use borrow.Author.Rules.{rules}
 use Rattle.poll_dialog.proofs.report.Goals as goal
 
-pub returns : goal.returns
+pub returns-clause-text : goal.returns-clause-text
 unfolding report_text spoken
-returns c = let put = c in
-    let e = put.report-a.ensures in
-    record {
-      is = rw e;
-      text = rw (← e) put.put_number-end.ensures;
-    }
+returns-clause-text c = rw (ap (λ (r : Answer). number_of r.1) (sym c.report.ensures), ← c.number_of-n.ensures) c.put_number.ensures

@@ -1,6 +1,5 @@
 -- `poll_dialog::asked::join` meets its contract: the only word is a number in range, or it is not.
 use Rattle.poll_dialog.specs.Asked.{join_in}
-use borrow.Author.Rules.{rules}
 use Rattle.poll_dialog.proofs.asked.join.Goals as goal
 
 pub returns-in-Count : goal.returns-in-Count

@@ -9,7 +9,6 @@ use Rattle.script.specs.Table.{named_in}
 use Rattle.script.specs.TableLaws.{found, passed}
 use Rattle.poll_dialog.specs.Asked.{no_such_word, table, named_of}
 use Rattle.poll_dialog.specs.declared.asked.Asked.TheVariants.{Wrong}
-use borrow.Author.Rules.{rules}
 use Rattle.poll_dialog.proofs.asked.named.Goals as goal
 
 -- k entries are passed

@@ -4,7 +4,6 @@ use native.Mathlib.Omega.{arith}
 use lib.ListN.{length}
 use Rattle.text.specs.WordLaws.{no_word, some_word}
 use Rattle.poll_dialog.specs.Asked.{pick_in}
-use borrow.Author.Rules.{rules}
 use Rattle.poll_dialog.proofs.asked.pick.Goals as goal
 
 pub returns-then-extra-eq0 : goal.returns-then-extra-eq0

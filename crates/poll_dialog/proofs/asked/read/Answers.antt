@@ -9,7 +9,6 @@ use Rattle.text.specs.Words.{parts_of, words_of}
 use Rattle.text.specs.WordLaws.{no_word, some_word}
 use Rattle.poll_dialog.specs.Asked.{meaning_of, meant_of, asked_of}
 use Rattle.poll_dialog.specs.declared.asked.Asked.TheVariants.{Blank}
-use borrow.Author.Rules.{rules}
 use Rattle.poll_dialog.proofs.asked.read.Goals as goal
 
 -- an empty line asks for nothing

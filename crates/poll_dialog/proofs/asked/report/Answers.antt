@@ -1,7 +1,6 @@
 -- `poll_dialog::asked::report` meets its contract: the first word is an address and the only other one 0 or 1, or not.
 use Rattle.text.specs.WordLaws.{first-of, others-of}
 use Rattle.poll_dialog.specs.Asked.{report_in}
-use borrow.Author.Rules.{rules}
 use Rattle.poll_dialog.proofs.asked.report.Goals as goal
 
 pub returns-in-Count-v : goal.returns-in-Count-v

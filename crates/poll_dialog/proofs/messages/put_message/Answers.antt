@@ -2,7 +2,6 @@
 use native.Mathlib.Omega.{arith}
 use Rattle.poll_dialog.specs.Messages.{message_of}
 use Rattle.poll_dialog.specs.MessageLaws.{other-message}
-use borrow.Author.Rules.{rules}
 use Rattle.poll_dialog.proofs.messages.put_message.Goals as goal
 
 pub returns-in-0 : goal.returns-in-0

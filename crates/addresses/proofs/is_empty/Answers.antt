@@ -1,9 +1,0 @@
--- `addresses::is_empty` meets its contract: the words joined are the definition's.
-use mathlib.Core.Path.{refl}
-use borrow.Author.Rules.{rules}
-use Rattle.addresses.specs.Addresses.{is_empty}
-use Rattle.addresses.proofs.is_empty.Goals as goal
-
-pub returns : goal.returns
-unfolding is_empty
-returns c = refl
