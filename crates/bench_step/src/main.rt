@@ -88,9 +88,9 @@ fn part(t: &[i32; 104], o: Outcome) -> u64 {
     let switches = l.switches;
     let values = raised(reading.result) + 3 * raised(l.shown);
     let rest = 7 * outs_part(panel::outputs(t, switches)) + 11 * drive_part(drive);
-    let told = 13 * (state::note_number(o.note) as u64)
-        + 17 * (reading::halves_number(o.halves) as u64);
-    values + rest + 5 * (measurement::error_number(error) as u64) + told
+    let told = 13 * u64::from(state::note_number(o.note))
+        + 17 * u64::from(reading::halves_number(o.halves));
+    values + rest + 5 * u64::from(measurement::error_number(error)) + told
 }
 
 // One run of the events. The record is added when it has ended, so that its upkeep is timed and not its reading.
@@ -100,12 +100,10 @@ fn run_once(t: &mut [i32; 104], x: Summed<Live>, words: &[u64]) -> Summed<Live>
 {
     let mut live = x.live;
     let mut sum = x.sum;
-    let mut i: usize = 0;
-    while i < words.len() {
-        let o = panel::advance(t, live, runs::event_of(words[i]));
+    for w in words {
+        let o = panel::advance(t, live, runs::event_of(*w));
         sum = sum.wrapping_add(part(t, o));
         live = o.live;
-        i += 1;
     }
     let driven = live.driven;
     Summed {
