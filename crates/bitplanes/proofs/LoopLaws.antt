@@ -1,6 +1,6 @@
--- What the loop of `exchange` does to its list, one turn at a time. A round goes through 16 pairs of words that are w apart.
-use Rattle.std.specs.Prelude.{◌≡◌, refl, ◌⊎◌, List, ℕ, ◌+◌, ◌-◌, ◌*◌, ◌/◌, ◌%◌, ◌≤◌, ◌<◌, length, set}
-use Rattle.std.proofs.Common.{sym, ◌∙◌, subst, inl, inr, mod-lt, add-zero, mul_assoc, mul_comm, div-lt_iff_lt-mul, lit<, lt-length-set, ext_get_or}
+-- What a copy and the loop of `exchange` do to their lists, one turn at a time. A round goes through 16 pairs of words that are w apart.
+use Rattle.std.specs.Prelude.{◌≡◌, refl, ◌⊎◌, List, ◌++◌, ℕ, suc, ◌+◌, ◌-◌, ◌*◌, ◌/◌, ◌%◌, ◌≤◌, ◌<◌, length, take, drop, set}
+use Rattle.std.proofs.Common.{sym, ◌∙◌, subst, inl, inr, mod-lt, add-zero, mul_assoc, mul_comm, div-lt_iff_lt-mul, add-one, lit<, drop-cons, take-suc, length-take-le, lt-length-set, ext_get_or}
 use Rattle.std.proofs.Math.Path.{ap, ap₂}
 use Rattle.std.proofs.Math.Nat.{mod-le, div-add-mod'}
 use native.Mathlib.Omega.{arith}
@@ -8,12 +8,22 @@ use Rattle.std.proofs.Math.Arith.{digits_lt, digits_div, digits_mod}
 use Rattle.std.specs.Int.Bits.{bit_and}
 use Rattle.std.proofs.lemmas.Nat.{and_mask}
 use Rattle.std.proofs.Math.ListN.{get_or}
-use Rattle.std.proofs.Math.Seq.{get_or-set_same, get_or-set_other}
+use Rattle.std.proofs.lemmas.List.{set_at}
+use Rattle.std.proofs.Math.Seq.{append_snoc, get_or-set_same, get_or-set_other}
 use Rattle.bits.proofs.BitLaws.{below_or}
 use Rattle.bitplanes.specs.IndexLaws.{above, at, below, joined, parts, joined-above, joined_at, joined-below, joined-lt, joined-one, above-lt}
 use Rattle.bitplanes.proofs.MaskLaws.{sizes}
 use Rattle.bitplanes.specs.RoundSteps.{Width, First, lower_of, upper_of, chosen, exchanged_word, exchanged}
 use Rattle.bitplanes.proofs.RoundLaws.{even_odd, exchanged-length, exchanged-at}
+
+-- ---- a copy: one word more
+pub copy-next : (s d : List ℕ) (i : ℕ) → i < length s → i < length d → set (take i s ++ drop i d) i (get_or s i 0) ≡ take (i + 1) s ++ drop (i + 1) d
+copy-next s d i hs hd =
+    ap (λ (r : List ℕ). set (take i s ++ r) i (get_or s i 0)) (drop-cons d i 0 hd)
+    ∙ set_at (take i s) (get_or d i 0) (drop (suc i) d) (get_or s i 0) i (length-take-le i s (omega arith))
+    ∙ sym (append_snoc (take i s) (get_or s i 0) (drop (suc i) d))
+    ∙ ap (λ (r : List ℕ). r ++ drop (suc i) d) (sym (take-suc s i 0 hs))
+    ∙ ap (λ (k : ℕ). take k s ++ drop k d) (sym (add-one i))
 
 -- ---- the words of a pair: p parted at w, with a 0 or a 1 between
 -- word b of pair p

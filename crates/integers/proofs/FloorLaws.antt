@@ -1,12 +1,32 @@
 -- The laws of `floor_mod`, and of the quotient that belongs to it. Assumes nothing.
-use Rattle.std.specs.Prelude.{ℕ, zero, suc, ◌-◌, ◌/◌, ◌%◌, ◌<◌, ◌≡◌, refl, Bool, true, false, ℤ, pos, negsuc, ◌+ℤ◌, ◌*ℤ◌, ◌≤ℤ◌, ◌<ℤ◌}
-use Rattle.std.proofs.Common.{sym, ap, ◌∙◌, arith, div-add-mod', mod-lt}
+use Rattle.std.specs.Prelude.{ℕ, zero, suc, ◌+◌, ◌-◌, ◌*◌, ◌/◌, ◌%◌, ◌≤◌, ◌<◌, ◌≡◌, refl, ◌⊎◌, Bool, true, false, ℤ, pos, negsuc, neg_ℤ, ◌+ℤ◌, ◌*ℤ◌, ◌≤ℤ◌, ◌<ℤ◌}
+use Rattle.std.proofs.Common.{sym, ap, ◌∙◌, inl, inr, arith, div-add-mod', mod-lt}
+use Rattle.std.proofs.Math.Decide.{dec_le}
+use Rattle.std.proofs.Math.Arith.{digits_mod}
 use Rattle.std.specs.Int.{int_rem_euclid}
-use Rattle.std.specs.Int.Signed.{le_z, shr_z}
+use Rattle.std.specs.Int.Signed.{le_z, lt_z, rem_z, shr_z}
 use Rattle.integers.specs.Int.{P}
-use Rattle.integers.specs.IntLaws.{ints, add_is, eq_of}
-use Rattle.integers.specs.RingLaws.{var, lit, ◌⊕◌, ◌⊗◌, val, ring, ring-to, le_in, lt_in, mul_mono}
+use Rattle.integers.specs.IntLaws.{ints, neg-P, neg-N, add_is, eq_of}
+use Rattle.integers.specs.RingLaws.{var, lit, ◌⊕◌, ◌⊗◌, neg, val, ring, ring-to, le_in, lt_in, mul_mono}
 use Rattle.integers.specs.Round.{floor_mod}
+
+-- one more: the remainder is one more, or turns over
+suc-mod : (a m : ℕ) → 0 < m → ((suc a % m ≡ suc (a % m)) × (suc (a % m) < m)) ⊎ ((suc a % m ≡ 0) × (suc (a % m) ≡ m))
+suc-mod a m h = go (dec_le m (suc (a % m)))
+  where
+    is : suc a ≡ a / m * m + suc (a % m)
+    is = omega (arith, div-add-mod' a m)
+
+    over : suc (a % m) ≡ m → suc a ≡ suc (a / m) * m + 0
+    over e = omega (arith, div-add-mod' a m)
+
+    go : Dec (m ≤ suc (a % m)) → ((suc a % m ≡ suc (a % m)) × (suc (a % m) < m)) ⊎ ((suc a % m ≡ 0) × (suc (a % m) ≡ m))
+    go (yes y) =
+        let e : suc (a % m) ≡ m = omega (arith, mod-lt a h) in
+        inr (ap (λ (x : ℕ). x % m) (over e) ∙ digits_mod (suc (a / m)) h, e)
+    go (no f) =
+        let l : suc (a % m) < m = omega (arith, f) in
+        inl (ap (λ (x : ℕ). x % m) is ∙ digits_mod (a / m) l, l)
 
 pub floor-range : (a r : ℤ) → pos 0 <ℤ r → (pos 0 ≤ℤ floor_mod a r) × (floor_mod a r <ℤ r)
 unfolding floor_mod
@@ -101,6 +121,33 @@ floor-is a r q hr low high = go (le_z k q) (le_z q k) refl refl
           le_in (var q ⊗ lit r) (var a) low,
           le_in ((var k ⊕ lit 1) ⊗ lit r) (var q ⊗ lit r) (step q k ht),
         ))
+
+-- ---- by the remainder of division toward 0
+
+pub rem-keep : (a r : ℤ) → le_z r (pos 0) ≡ false → lt_z (rem_z a r) (pos 0) ≡ false → rem_z a r ≡ floor_mod a r
+unfolding floor_mod
+rem-keep a (negsuc r) h k = absurd (omega (arith, ints))
+rem-keep a (pos zero) h k = absurd (omega (arith, ints))
+rem-keep (pos a) (pos (suc r)) h k = refl
+rem-keep (negsuc a) (pos (suc r)) h k = go (suc-mod a (suc r) (omega arith))
+  where
+    m : ℕ
+    m = suc a % suc r
+
+    go : ((suc a % suc r ≡ suc (a % suc r)) × (suc (a % suc r) < suc r)) ⊎ ((suc a % suc r ≡ 0) × (suc (a % suc r) ≡ suc r)) → neg_ℤ (pos (suc a % suc r)) ≡ pos (r - a % suc r)
+    go (inl e) = absurd (omega (arith, ints, e.0, neg-P (pos (suc a % suc r)), neg-N (pos (suc a % suc r))))
+    go (inr e) = omega (arith, ints, e.0, e.1, neg-P (pos (suc a % suc r)), neg-N (pos (suc a % suc r)))
+
+pub rem-turn : (a r : ℤ) → le_z r (pos 0) ≡ false → lt_z (rem_z a r) (pos 0) ≡ true → rem_z a r +ℤ r ≡ floor_mod a r
+unfolding floor_mod
+rem-turn a (negsuc r) h k = absurd (omega (arith, ints))
+rem-turn a (pos zero) h k = absurd (omega (arith, ints))
+rem-turn (pos a) (pos (suc r)) h k = absurd (omega (arith, ints))
+rem-turn (negsuc a) (pos (suc r)) h k = go (suc-mod a (suc r) (omega arith))
+  where
+    go : ((suc a % suc r ≡ suc (a % suc r)) × (suc (a % suc r) < suc r)) ⊎ ((suc a % suc r ≡ 0) × (suc (a % suc r) ≡ suc r)) → neg_ℤ (pos (suc a % suc r)) +ℤ pos (suc r) ≡ pos (r - a % suc r)
+    go (inl e) = ring (neg (var (pos (suc a % suc r))) ⊕ var (pos (suc r))) (var (pos (r - a % suc r))) (omega (arith, e.0, e.1))
+    go (inr e) = absurd (omega (arith, ints, e.0, neg-P (pos (suc a % suc r)), neg-N (pos (suc a % suc r))))
 
 -- ---- by std's remainder, which is from 0 on too, as code has it
 

@@ -1,9 +1,11 @@
 -- The bits of a signed word are 32 bits, and a signed word and its bits give each other back, words below 0 too. Assumes nothing.
-use Rattle.std.specs.Prelude.{◌≡◌, refl, cond, ℕ, suc, ◌-◌, ◌^◌, ◌≤◌, ◌<◌, ltb, ℤ, pos, negsuc, ◌-ℤ◌}
-use Rattle.std.proofs.Common.{arith, lt-ltb, le-ltb}
+use Rattle.std.specs.Prelude.{◌≡◌, refl, true, false, cond, ℕ, suc, ◌-◌, ◌^◌, ◌≤◌, ◌<◌, ltb, ℤ, pos, negsuc, nat_abs, ◌+ℤ◌, ◌-ℤ◌}
+use Rattle.std.proofs.Common.{sym, ◌∙◌, arith, lt-ltb, le-ltb}
 use Rattle.std.proofs.Math.Decide.{dec_le}
-use Rattle.std.specs.Int.Signed.{mag}
-use Rattle.integers.specs.IntLaws.{sub_is, excl, eq_of, ints}
+use Rattle.std.proofs.Math.Dec.{leb-zero}
+use Rattle.std.specs.Int.Signed.{mag, le_z}
+use Rattle.integers.specs.ChoiceLaws.{true-is, false-is}
+use Rattle.integers.specs.IntLaws.{add_is, sub_is, excl, eq_of, ints}
 use Rattle.integers.specs.TwosComplement.{signed_of, bits_of}
 
 -- ---- read back
@@ -34,3 +36,16 @@ bits-signed w h = go (dec_le (2 ^ 31) w)
     go : Dec (2 ^ 31 ≤ w) → bits_of (cond (ltb w (2 ^ 31)) (pos w) (pos w -ℤ pos (2 ^ 32))) ≡ w
     go (yes l) = rw (le-ltb w (2 ^ 31) l) (minus-bits w (pos w -ℤ pos (2 ^ 32)) refl h)
     go (no n) = rw (lt-ltb w (2 ^ 31) (omega (arith, n)))
+
+-- ---- by the sign: a word from 0 on is its own bits, another one 2 ^ 32 more
+pub bits-from-zero : (z : ℤ) → le_z (pos 0) z ≡ true → nat_abs z ≡ bits_of z
+unfolding bits_of
+bits-from-zero (pos n) e = refl
+bits-from-zero (negsuc n) e = absurd (true-is _ e)
+
+pub bits-below-zero : (z : ℤ) → le_z (pos 0) z ≡ false → mag z < 2 ^ 31 → pos (bits_of z) ≡ z +ℤ pos (2 ^ 32)
+unfolding bits_of
+bits-below-zero (pos n) e h = absurd (false-is _ (sym (leb-zero n) ∙ e))
+bits-below-zero (negsuc n) e h =
+    let s = negsuc n +ℤ pos (2 ^ 32) in
+    eq_of (pos (2 ^ 32 - suc n)) s (omega (arith, add_is (negsuc n) (pos (2 ^ 32)), excl s))

@@ -2,12 +2,18 @@
 use Rattle.std.specs.Prelude.{◌≡◌, refl, ◌⊎◌, Bool, true, false, ℕ, zero, suc, ◌+◌, ◌≤◌, ◌<◌, ℤ, pos, ◌-ℤ◌, ◌*ℤ◌}
 use Rattle.std.proofs.Common.{inl, inr, arith}
 use Rattle.std.proofs.Math.Decide.{dec_le}
-use Rattle.std.specs.Int.Signed.{le_z}
+use Rattle.std.specs.Int.Signed.{le_z, lt_z}
 use Rattle.integers.specs.IntLaws.{ints, excl, sub_is, abs_is, sub_within}
 use Rattle.integers.specs.Int.{Within}
 use Rattle.switching.specs.Condition.{by_mode, magnitude_of, on_above, on_below, on_near, compared, against, rule_of}
 
 -- ---- a number without its sign
+
+pub magnitude_of-turn : (x : ℤ) → lt_z x (pos 0) ≡ true → pos 0 -ℤ x ≡ magnitude_of x
+magnitude_of-turn x e = omega (arith, ints, sub_is (pos 0) x, excl x, abs_is x)
+
+pub magnitude_of-keep : (x : ℤ) → lt_z x (pos 0) ≡ false → x ≡ magnitude_of x
+magnitude_of-keep x e = omega (arith, ints, excl x, abs_is x)
 
 pub magnitude_of-within : {A : ℕ} {x : ℤ} → Within A x → Within A (magnitude_of x)
 magnitude_of-within {A} {x} h = record { above = omega (arith, abs_is x, excl x, h.above, h.below); below = omega arith }

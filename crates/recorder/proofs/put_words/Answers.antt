@@ -6,7 +6,7 @@ use native.Mathlib.Omega.{arith}
 use lib.ListN.{length, take, drop, drop_of_length-le}
 use lib.Seq.{take-length}
 use Rattle.events.specs.Bytes.{bytes_of}
-use Rattle.recorder.specs.LoopLaws.{put-more}
+use Rattle.recorder.specs.LoopLaws.{put-chunk}
 use borrow.Author.Rules.{rules}
 use Rattle.recorder.proofs.put_words.Goals as goal
 
@@ -18,7 +18,7 @@ pub loop-k-preserved : goal.loop-k-preserved
 loop-k-preserved c =
     let k = c.loop-k.k in (
       search rules,
-      put-more c.args.words.now c.args.bytes.now c.loop-k.bytes k (omega arith) c.requires c.loop-k.invariant.1
+      put-chunk c.args.words.now c.args.bytes.now c.loop-k.bytes k (omega arith) c.requires c.loop-k.invariant.1
           c.copy_from_slice.new.self (4 * k + 4 - 4 * k) (omega arith) (c.copy_from_slice.ensures.after ∙ c.bytes_of.ensures),
     )
 
