@@ -118,10 +118,9 @@ fn locked(p: Preselection, s: Switch) -> Switch
     ensures { result ≡ locked_of p s }
 {
     if p.lock == 1 {
-        return Switch {
-            locked: active(p, s),
-            ..s
-        };
+        let mut n = s;
+        n.locked = active(p, s);
+        return n;
     }
     s
 }
@@ -138,17 +137,18 @@ fn switched(p: Preselection, partner: i32, r: i32, s: Switch) -> Switch
 fn ticked(ms: u16, s: Switch) -> Switch
     ensures { result ≡ ticked_of ms s }
 {
-    Switch {
-        pulse: s.pulse.saturating_sub(u32::from(ms)),
-        ..s
-    }
+    let mut n = s;
+    n.pulse = s.pulse.saturating_sub(u32::from(ms));
+    n
 }
 
 // One switch with its lock cleared.
 fn unlocked(s: Switch) -> Switch
     ensures { result ≡ unlocked_of s }
 {
-    Switch { locked: false, ..s }
+    let mut n = s;
+    n.locked = false;
+    n
 }
 
 // The partner of a preselection, counted from 0.
