@@ -20,7 +20,7 @@ use Rattle.panel.specs.Step.{answer_of, on_telegram, step_of, switched_of, displ
 use Rattle.reading.specs.declared.Basis.{Basis}
 use Rattle.reading.specs.declared.Halves.{Halves}
 use Rattle.reading.specs.Follow.{basis_after}
-use Rattle.reading.specs.Reading.{accepts_of, measured_at, measurement_at, code_at, coded_at, reading_of, marks_of, halves_of}
+use Rattle.reading.specs.Reading.{accepts_of, measured_at, measurement_at, code_at, coded_at, reading_of, halves, halves_number, in_scaling, in_linearization, in_analog, marks_of, halves_of}
 use Rattle.settings.specs.declared.Span.{Span}
 use Rattle.settings.specs.Settings.{scaling_of, points_of, span_of}
 use Rattle.state.specs.declared.State.{State}
@@ -48,6 +48,18 @@ code_same a r e =
     ap (held (lowest a.format) (pos (full_scale a.format))) (up_same q.num (pos q.den) e)
 
 -- ---- a reading: without error its marks are those of the roundings
+
+-- each mark is found again in the number
+read_back_lem : (s l a : Bool) → (in_scaling (halves_number (halves s l a)) ≡ s) × ((in_linearization (halves_number (halves s l a)) ≡ l) ×
+    (in_analog (halves_number (halves s l a)) ≡ a))
+read_back_lem true true true = (refl, (refl, refl))
+read_back_lem true true false = (refl, (refl, refl))
+read_back_lem true false true = (refl, (refl, refl))
+read_back_lem true false false = (refl, (refl, refl))
+read_back_lem false true true = (refl, (refl, refl))
+read_back_lem false true false = (refl, (refl, refl))
+read_back_lem false false true = (refl, (refl, refl))
+read_back_lem false false false = (refl, (refl, refl))
 
 marks-are : (t : List ℤ) (b : Basis) → (measured_at t b).error ≡ None →
     ((halves_of t b).scaling ≡ scaling_half (scaling_of t) b.start) × (((halves_of t b).linearization ≡ line_half (scaling_of t) (points_of t) b.start) ×

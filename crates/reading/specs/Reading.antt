@@ -1,7 +1,7 @@
 -- One reading under a table: a telegram gives the position after direction and whether its error bit reports; these become a result or an error, and the result drives
 -- the analog line. While a round loop is set the count U stands in the position's place (Follow).
 -- Paper 01, "From telegram to result" and "Analog value", held together; paper 02, K7, the marks beside a reading. Assumes nothing.
-use Rattle.std.specs.Prelude.{Bool, false, cond, List, ℕ, ◌+◌, eqb, ℤ}
+use Rattle.std.specs.Prelude.{Bool, false, cond, List, ℕ, ◌+◌, ◌/◌, ◌%◌, eqb, ℤ}
 use Rattle.analog.specs.declared.Drive.{Drive}
 use Rattle.analog.specs.declared.Drive.TheVariants.{Off}
 use Rattle.analog.specs.declared.Coded.{Coded}
@@ -76,6 +76,16 @@ mark half worth = cond half worth 0
 
 abbrev pub halves_number : Halves → ℕ
 halves_number h = mark h.scaling 1 + mark h.linearization 2 + mark h.analog 4
+
+-- each of them again
+abbrev pub in_scaling : ℕ → Bool
+in_scaling h = eqb (h % 2) 1
+
+abbrev pub in_linearization : ℕ → Bool
+in_linearization h = eqb (h / 2 % 2) 1
+
+abbrev pub in_analog : ℕ → Bool
+in_analog h = eqb (h / 4 % 2) 1
 
 -- "Scaling, linearization and analog value each pass on their own"; "All three are no under an error"
 unfoldable pub marks_of : Measurement → Bool → Halves
