@@ -5,9 +5,18 @@ use Rattle.std.specs.Prelude.{cond, List, [], ◌∷◌, ℕ, eqb, ltb, length, 
 use Rattle.text.specs.Words.{trimmed_of, words_of, only_of, first_of, others_of}
 use Rattle.script.specs.Table.{Entry, named_in}
 use Rattle.script.specs.Commands.{natural_of, longest, hash}
+use Rattle.poll_dialog.specs.declared.asked.Reason.{Reason}
 use Rattle.poll_dialog.specs.declared.asked.Reason.TheVariants.{TooLong, NoSuchWord, BadJoin, BadReport, BadPick}
 use Rattle.poll_dialog.specs.declared.asked.Asked.{Asked}
 use Rattle.poll_dialog.specs.declared.asked.Asked.TheVariants.{Blank, Wrong, Join, Report, Pick}
+
+-- ---- why a line is no command: the number of each reason
+abbrev pub reason_number : Reason → ℕ
+reason_number TooLong = 0
+reason_number NoSuchWord = 1
+reason_number BadJoin = 2
+reason_number BadReport = 3
+reason_number BadPick = 4
 
 -- ---- what stands behind the first word
 -- an address, registered or not: 0 to 65535

@@ -8,7 +8,7 @@ use Rattle.text.specs.Marks.{newline, number}
 use Rattle.text.specs.Plain.{spoken}
 use Rattle.poll_dialog.specs.declared.asked.Asked.{Asked}
 use Rattle.poll_dialog.specs.declared.asked.Asked.TheVariants.{Blank, Wrong, Join, Report, Pick}
-use Rattle.poll_dialog.specs.Asked.{join_word, report_word, pick_word, asked_of}
+use Rattle.poll_dialog.specs.Asked.{join_word, report_word, pick_word, reason_number, asked_of}
 use Rattle.poll_dialog.specs.Messages.{message_of}
 
 -- the most bytes of a line that is written
@@ -47,7 +47,7 @@ after_asked d Pick = (pick_of d).0
 
 unfoldable pub asked_text : Dispatcher → Asked → List ℕ
 asked_text d Blank = []
-asked_text d (Wrong reason) = message_of reason
+asked_text d (Wrong reason) = message_of (reason_number reason)
 asked_text d (Join a) = join_text d a
 asked_text d (Report a e) = report_text d a e
 asked_text d Pick = choice_line (pick_of d).1

@@ -1,8 +1,6 @@
 -- What is written in words where a line is no command: one line for each reason. Paper 02, K12, poller. Bytes of a text stand below it.
 -- Main property: every message begins with `? `, ends in a newline, its only one, and has at most 128 bytes (MessageLaws).
-use Rattle.std.specs.Prelude.{List, [], ◌∷◌, ℕ}
-use Rattle.poll_dialog.specs.declared.asked.Reason.{Reason}
-use Rattle.poll_dialog.specs.declared.asked.Reason.TheVariants.{TooLong, NoSuchWord, BadJoin, BadReport, BadPick}
+use Rattle.std.specs.Prelude.{List, [], ◌∷◌, ℕ, get_or}
 
 -- ? line has more than 1024 bytes
 abbrev pub too_long_text : List ℕ
@@ -36,10 +34,10 @@ bad_pick_text =
     63 ∷ 32 ∷ 112 ∷ 105 ∷ 99 ∷ 107 ∷ 32 ∷ 116 ∷ 97 ∷ 107 ∷ 101 ∷ 115 ∷ 32 ∷ 110 ∷ 111 ∷ 116 ∷ 104 ∷ 105 ∷ 110 ∷ 103
     ∷ 10 ∷ []
 
--- THE MESSAGE OF A REASON
-unfoldable pub message_of : Reason → List ℕ
-message_of TooLong = too_long_text
-message_of NoSuchWord = no_such_word_text
-message_of BadJoin = bad_join_text
-message_of BadReport = bad_report_text
-message_of BadPick = bad_pick_text
+-- the messages of the reasons 0 to 3, in their order
+abbrev pub messages : List (List ℕ)
+messages = too_long_text ∷ no_such_word_text ∷ bad_join_text ∷ bad_report_text ∷ []
+
+-- THE MESSAGE OF A REASON: 4 and any other number say that `pick` takes nothing
+unfoldable pub message_of : ℕ → List ℕ
+message_of reason = get_or messages reason bad_pick_text

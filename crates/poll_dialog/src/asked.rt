@@ -2,7 +2,7 @@
 // A WORD IS ADDED by a variant of `Asked`, its reason, its function, one `if` of `named`, and a message in `messages`.
 ghost use Rattle.std.specs.Prelude.{◌≡◌};
 ghost use Rattle.text.specs.Words.{words_of};
-ghost use Rattle.poll_dialog.specs.Asked.{join_in, report_in, pick_in, named_of, asked_of};
+ghost use Rattle.poll_dialog.specs.Asked.{join_in, report_in, pick_in, named_of, asked_of, reason_number};
 
 use text::words;
 
@@ -20,6 +20,21 @@ pub(crate) enum Reason {
     BadJoin,
     BadReport,
     BadPick,
+}
+
+impl Reason {
+    // The number of a reason.
+    pub(crate) fn number(self) -> u8
+        ensures { result ≡ reason_number self }
+    {
+        match self {
+            Reason::TooLong => 0,
+            Reason::NoSuchWord => 1,
+            Reason::BadJoin => 2,
+            Reason::BadReport => 3,
+            Reason::BadPick => 4,
+        }
+    }
 }
 
 // What a line asks for.

@@ -4,8 +4,6 @@
 use Rattle.std.specs.Prelude.{Bool, ◌&&◌, List, [], ◌∷◌, ℕ, ◌-◌, eqb, leb, length, get_or, take}
 use Rattle.decimal.specs.Decimal.{same_text}
 use Rattle.text.specs.Marks.{space, newline}
-use Rattle.script.specs.declared.Reason.{Reason}
-use Rattle.script.specs.declared.Reason.TheVariants.{TooLong, NoSuchWord, BadNode, BadSlot, BadStart, BadTelegram, BadLevels, BadTick, BadFrame, BadHalves, BadRecord, BadBurst, NoPanel}
 use Rattle.script.specs.Collector.{no_newline}
 
 -- ? line has more than 1024 bytes, or 10240 with b
@@ -94,21 +92,27 @@ no_panel_text =
     63 ∷ 32 ∷ 110 ∷ 111 ∷ 32 ∷ 112 ∷ 97 ∷ 110 ∷ 101 ∷ 108 ∷ 32 ∷ 114 ∷ 117 ∷ 110 ∷ 115 ∷ 32 ∷ 121 ∷ 101 ∷ 116 ∷ 59
     ∷ 32 ∷ 115 ∷ 116 ∷ 97 ∷ 114 ∷ 116 ∷ 32 ∷ 111 ∷ 110 ∷ 101 ∷ 10 ∷ []
 
--- THE MESSAGE OF A REASON
-unfoldable pub message_of : Reason → List ℕ
-message_of TooLong = too_long_text
-message_of NoSuchWord = no_such_word_text
-message_of BadNode = bad_node_text
-message_of BadSlot = bad_slot_text
-message_of BadStart = bad_start_text
-message_of BadTelegram = bad_telegram_text
-message_of BadLevels = bad_levels_text
-message_of BadTick = bad_tick_text
-message_of BadFrame = bad_frame_text
-message_of BadHalves = bad_halves_text
-message_of BadRecord = bad_record_text
-message_of BadBurst = bad_burst_text
-message_of NoPanel = no_panel_text
+-- the messages of the reasons 1 to 12, in their order; what stands at 0 is no reason's
+abbrev pub messages : List (List ℕ)
+messages =
+    no_panel_text
+    ∷ too_long_text
+    ∷ no_such_word_text
+    ∷ bad_node_text
+    ∷ bad_slot_text
+    ∷ bad_start_text
+    ∷ bad_telegram_text
+    ∷ bad_levels_text
+    ∷ bad_tick_text
+    ∷ bad_frame_text
+    ∷ bad_halves_text
+    ∷ bad_record_text
+    ∷ bad_burst_text
+    ∷ []
+
+-- THE MESSAGE OF A REASON: 13 and any other number say that no panel runs
+unfoldable pub message_of : ℕ → List ℕ
+message_of kind = get_or messages kind no_panel_text
 
 -- the most bytes that a message has
 abbrev pub longest_message : ℕ

@@ -11,7 +11,7 @@ returns-in-Blank c = record { is = rw c.in-Blank.is; text = rw c.in-Blank.is (pu
 
 pub returns-in-Wrong : goal.returns-in-Wrong
 unfolding after_asked asked_text
-returns-in-Wrong c = record { is = rw c.in-Wrong.is; text = rw c.in-Wrong.is c.put_message.ensures }
+returns-in-Wrong c = record { is = rw c.in-Wrong.is; text = rw (c.in-Wrong.is, ← c.number.ensures) c.put_message.ensures }
 
 pub returns-in-Join : goal.returns-in-Join
 unfolding after_asked asked_text
