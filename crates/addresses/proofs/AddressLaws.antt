@@ -1,9 +1,10 @@
 -- The laws of a set of addresses: with an address and without it, every other stays; what a word and its lowest bit say of the search; and the empty set.
-use Rattle.std.specs.Prelude.{◌≡◌, true, false, List, ◌⊎◌, ℕ, None, Some, zero, suc, ◌+◌, ◌-◌, ◌*◌, ◌/◌, ◌%◌, ◌^◌, ◌≤◌, ◌<◌, max, min, length, get_or, set}
+use Rattle.std.specs.Prelude.{◌≡◌, refl, Bool, true, false, ◌&&◌, List, [], ◌∷◌, ◌⊎◌, ℕ, None, Some, zero, suc, ◌+◌, ◌-◌, ◌*◌, ◌/◌, ◌%◌, ◌^◌, ◌≤◌, ◌<◌, max, min, length, get_or, set}
 use Rattle.std.proofs.Common.{sym, ◌∙◌, ap₂, inl, inr, one-mul, lit<, eqb→eq, shl_exact, get_or-set_same, get_or-set_other}
 use Rattle.std.proofs.Math.Path.{ap}
 use native.Mathlib.Omega.{arith}
-use borrow.Author.Tests.{eq-eqb, eqb-true, eqb-false}
+use borrow.Author.Tests.{eq-eqb, eqb-true, eqb-false, ne_eqb}
+use lib.Pointwise.{pointwise}
 use Rattle.std.specs.Int.Bits.{bit_and, bit_or, bit_xor, differ, or_add_and}
 use Rattle.std.proofs.lemmas.Nat.{and_le_l, and_le_r}
 use Rattle.std.specs.Int.Count.{count_trailing_zeros}
@@ -161,6 +162,29 @@ module _ (s : Addresses) (at : ℕ) where
 
 or-zero : (a b : ℕ) → bit_or a b ≡ 0 → (a ≡ 0) × (b ≡ 0)
 or-zero a b e = (omega (arith, or_add_and a b, and_le_l a b, and_le_r a b), omega (arith, or_add_and a b, and_le_l a b, and_le_r a b))
+
+or-none : (a b : ℕ) → eqb (bit_or a b) 0 ≡ (eqb a 0 && eqb b 0)
+or-none zero zero = refl
+or-none zero (suc b) = rw (ne_eqb (suc b) 0 (λ e. omega arith))
+or-none (suc a) b = rw (ne_eqb (bit_or (suc a) b) 0 (λ e. omega (arith, (or-zero (suc a) b e).0)), ne_eqb (suc a) 0 (λ e. omega arith))
+
+-- four words are all 0 where the words joined are 0
+pub all_zero : (ws : List ℕ) → length ws ≡ 4
+    → pointwise eqb ws (0 ∷ 0 ∷ 0 ∷ 0 ∷ []) ≡ eqb (bit_or (bit_or (get_or ws 0 0) (get_or ws 1 0)) (bit_or (get_or ws 2 0) (get_or ws 3 0))) 0
+all_zero [] l = absurd (omega arith)
+all_zero (a ∷ []) l = absurd (omega arith)
+all_zero (a ∷ (b ∷ [])) l = absurd (omega arith)
+all_zero (a ∷ (b ∷ (c ∷ []))) l = absurd (omega arith)
+all_zero (a ∷ (b ∷ (c ∷ (d ∷ [])))) l =
+    rw (or-none (bit_or a b) (bit_or c d), or-none a b, or-none c d) (by (eqb a 0) (eqb b 0) (eqb c 0) (eqb d 0))
+  where
+    by : (a b c d : Bool) → (a && (b && (c && (d && true)))) ≡ ((a && b) && (c && d))
+    by false b c d = refl
+    by true false c d = refl
+    by true true false d = refl
+    by true true true false = refl
+    by true true true true = refl
+all_zero (a ∷ (b ∷ (c ∷ (d ∷ (x ∷ ws))))) l = absurd (omega arith)
 
 -- each of the four words is 0
 word-zero : (s : Addresses) → is_empty s ≡ true → (i : ℕ) → i < 4 → get_or s.words i 0 ≡ 0
