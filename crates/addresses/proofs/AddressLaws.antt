@@ -6,7 +6,9 @@ use native.Mathlib.Omega.{arith}
 use borrow.Author.Tests.{eq-eqb, eqb-true, eqb-false, ne_eqb}
 use lib.Pointwise.{pointwise}
 use Rattle.std.specs.Int.Bits.{bit_and, bit_or, bit_xor, differ, or_add_and}
-use Rattle.std.proofs.lemmas.Nat.{and_le_l, and_le_r}
+use Rattle.std.proofs.lemmas.Nat.{and_le_l, and_le_r, xor_lt}
+use Rattle.std.proofs.lemmas.Nat.Bits.{same_from_bits_below, bit_at_clear_same, bit_at_clear_other}
+use Rattle.std.specs.Int.{bit_not, w64}
 use Rattle.std.specs.Int.Count.{count_trailing_zeros}
 use Rattle.std.proofs.Math.Dec.{eqb}
 use Rattle.std.proofs.Math.Pow.{shr_lt}
@@ -60,6 +62,17 @@ clear-bit-other i k w n = left-bit i w (2 ^ k) 0 (bit-power-other i k n) ∙ by-
     by-digit : (bit_at i w ≡ 0) ⊎ (bit_at i w ≡ 1) → differ (bit_at i w) (min (bit_at i w) 0) ≡ bit_at i w
     by-digit (inl e) = rw e
     by-digit (inr e) = rw e
+
+-- a bit cleared: what is left is the word without it
+pub cleared : (w k : ℕ) → w < 2 ^ 64 → k < 64 → bit_and w (bit_not w64 (1 * 2 ^ k % 2 ^ 64)) ≡ bit_xor w (bit_and w (2 ^ k))
+cleared w k small within =
+    same_from_bits_below 64 (bit_and w (bit_not w64 (1 * 2 ^ k % 2 ^ 64))) (bit_xor w (bit_and w (2 ^ k)))
+    (omega (arith, and_le_l w (bit_not w64 (1 * 2 ^ k % 2 ^ 64))))
+    (xor_lt 64 w (bit_and w (2 ^ k)) small (omega (arith, and_le_l w (2 ^ k))))
+    (λ i h. either (eqb i k)
+    (λ same. let e = eqb→eq i k same in rw e (bit_at_clear_same w64 w k within ∙ sym (clear-bit k w)))
+    (λ other. let n : i ≡ k → ⊥ = eqb-false i k (is_false (eqb i k) other) in
+    bit_at_clear_other w64 w k within i h n ∙ sym (clear-bit-other i k w n)))
 
 -- ---- a set with an address, and without it
 

@@ -42,9 +42,7 @@ impl Addresses {
         ensures { self.new ≡ excluding self.old a }
     {
         let i = usize::from(a / 64);
-        let w = self.words[i];
-        // Kept: `&= !mask` is no plainer here, since the definition `excluding` would have to say what `!` is of 64 bits.
-        self.words[i] = w ^ (w & (1 << (a % 64)));
+        self.words[i] &= !(1 << (a % 64));
     }
 
     // Whether no address is in the set.
