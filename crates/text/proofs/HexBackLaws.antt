@@ -1,5 +1,5 @@
 -- WHAT IS WRITTEN IN HEX IS READ: a number as k digits, and bytes as two digits each. Upper and lower case are read alike.
-use Rattle.std.specs.Prelude.{◌≡◌, refl, Bool, true, false, cond, List, [], ◌∷◌, ◌++◌, ℕ, zero, suc, ◌+◌, ◌*◌, ◌/◌, ◌%◌, ◌^◌, ◌<◌, ltb, leb, length, Option, Some, None}
+use Rattle.std.specs.Prelude.{◌≡◌, refl, Bool, true, false, cond, List, [], ◌∷◌, ◌++◌, ℕ, zero, suc, ◌+◌, ◌*◌, ◌/◌, ◌%◌, ◌^◌, ◌<◌, ltb, leb, length, Option, Some}
 use Rattle.std.specs.Option.{is_some, unwrap_or}
 use Rattle.std.proofs.Common.{sym, ap, ◌∙◌, append-nil, arith, div-add-mod', mod-lt, pow-suc, length-append, ltb-true, ltb-false, lt-ltb, leb-true}
 use Rattle.decimal.specs.DigitLaws.{both_true}

@@ -1,7 +1,7 @@
 -- Laws of hex digits: how large the number of some digits is, digits of either case, and what is written is read.
-use Rattle.std.specs.Prelude.{◌≡◌, refl, Bool, true, false, cond, ◌&&◌, List, [], ◌∷◌, ◌++◌, ℕ, suc, ◌+◌, ◌-◌, ◌*◌, ◌^◌, ◌≤◌, ◌<◌, leb, ltb, length, get_or, take, drop, Option, Some, None}
+use Rattle.std.specs.Prelude.{◌≡◌, refl, Bool, true, false, cond, ◌&&◌, List, [], ◌∷◌, ◌++◌, ℕ, suc, ◌+◌, ◌-◌, ◌*◌, ◌^◌, ◌≤◌, ◌<◌, leb, length, get_or, take, drop, Option, Some, None}
 use Rattle.std.specs.Option.{is_some, unwrap_or}
-use Rattle.std.proofs.Common.{ap, arith, mul_assoc, mul-le-mul_right, lt_of_lt_of_le, add-one, take-suc, leb-true, ltb-true, le-leb}
+use Rattle.std.proofs.Common.{ap, arith, mul_assoc, mul-le-mul_right, lt_of_lt_of_le, add-one, take-suc, leb-true, le-leb}
 use Rattle.std.proofs.Math.Nat.{pow-succ', pow-le-pow_right}
 use Rattle.std.proofs.lemmas.Bool.{lt-leb}
 use Rattle.decimal.specs.DigitLaws.{both_true}
