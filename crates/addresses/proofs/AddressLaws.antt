@@ -1,11 +1,14 @@
 -- The laws of a set of addresses: with an address and without it, every other stays; what a word and its lowest bit say of the search; and the empty set.
-use Rattle.std.specs.Prelude.{◌≡◌, true, false, List, ◌⊎◌, ℕ, None, Some, zero, suc, ◌+◌, ◌-◌, ◌*◌, ◌/◌, ◌%◌, ◌^◌, ◌≤◌, ◌<◌, max, min, length, get_or, set}
+use Rattle.std.specs.Prelude.{◌≡◌, refl, Bool, true, false, ◌&&◌, List, [], ◌∷◌, ◌⊎◌, ℕ, None, Some, zero, suc, ◌+◌, ◌-◌, ◌*◌, ◌/◌, ◌%◌, ◌^◌, ◌≤◌, ◌<◌, max, min, length, get_or, set}
 use Rattle.std.proofs.Common.{sym, ◌∙◌, ap₂, inl, inr, one-mul, lit<, eqb→eq, shl_exact, get_or-set_same, get_or-set_other}
 use Rattle.std.proofs.Math.Path.{ap}
 use native.Mathlib.Omega.{arith}
-use borrow.Author.Tests.{eq-eqb, eqb-true, eqb-false}
+use borrow.Author.Tests.{eq-eqb, eqb-true, eqb-false, ne_eqb}
+use lib.Pointwise.{pointwise}
 use Rattle.std.specs.Int.Bits.{bit_and, bit_or, bit_xor, differ, or_add_and}
-use Rattle.std.proofs.lemmas.Nat.{and_le_l, and_le_r}
+use Rattle.std.proofs.lemmas.Nat.{and_le_l, and_le_r, xor_lt}
+use Rattle.std.proofs.lemmas.Nat.Bits.{same_from_bits_below, bit_at_clear_same, bit_at_clear_other}
+use Rattle.std.specs.Int.{bit_not, w64}
 use Rattle.std.specs.Int.Count.{count_trailing_zeros}
 use Rattle.std.proofs.Math.Dec.{eqb}
 use Rattle.std.proofs.Math.Pow.{shr_lt}
@@ -59,6 +62,17 @@ clear-bit-other i k w n = left-bit i w (2 ^ k) 0 (bit-power-other i k n) ∙ by-
     by-digit : (bit_at i w ≡ 0) ⊎ (bit_at i w ≡ 1) → differ (bit_at i w) (min (bit_at i w) 0) ≡ bit_at i w
     by-digit (inl e) = rw e
     by-digit (inr e) = rw e
+
+-- a bit cleared: what is left is the word without it
+pub cleared : (w k : ℕ) → w < 2 ^ 64 → k < 64 → bit_and w (bit_not w64 (1 * 2 ^ k % 2 ^ 64)) ≡ bit_xor w (bit_and w (2 ^ k))
+cleared w k small within =
+    same_from_bits_below 64 (bit_and w (bit_not w64 (1 * 2 ^ k % 2 ^ 64))) (bit_xor w (bit_and w (2 ^ k)))
+    (omega (arith, and_le_l w (bit_not w64 (1 * 2 ^ k % 2 ^ 64))))
+    (xor_lt 64 w (bit_and w (2 ^ k)) small (omega (arith, and_le_l w (2 ^ k))))
+    (λ i h. either (eqb i k)
+    (λ same. let e = eqb→eq i k same in rw e (bit_at_clear_same w64 w k within ∙ sym (clear-bit k w)))
+    (λ other. let n : i ≡ k → ⊥ = eqb-false i k (is_false (eqb i k) other) in
+    bit_at_clear_other w64 w k within i h n ∙ sym (clear-bit-other i k w n)))
 
 -- ---- a set with an address, and without it
 
@@ -161,6 +175,29 @@ module _ (s : Addresses) (at : ℕ) where
 
 or-zero : (a b : ℕ) → bit_or a b ≡ 0 → (a ≡ 0) × (b ≡ 0)
 or-zero a b e = (omega (arith, or_add_and a b, and_le_l a b, and_le_r a b), omega (arith, or_add_and a b, and_le_l a b, and_le_r a b))
+
+or-none : (a b : ℕ) → eqb (bit_or a b) 0 ≡ (eqb a 0 && eqb b 0)
+or-none zero zero = refl
+or-none zero (suc b) = rw (ne_eqb (suc b) 0 (λ e. omega arith))
+or-none (suc a) b = rw (ne_eqb (bit_or (suc a) b) 0 (λ e. omega (arith, (or-zero (suc a) b e).0)), ne_eqb (suc a) 0 (λ e. omega arith))
+
+-- four words are all 0 where the words joined are 0
+pub all_zero : (ws : List ℕ) → length ws ≡ 4
+    → pointwise eqb ws (0 ∷ 0 ∷ 0 ∷ 0 ∷ []) ≡ eqb (bit_or (bit_or (get_or ws 0 0) (get_or ws 1 0)) (bit_or (get_or ws 2 0) (get_or ws 3 0))) 0
+all_zero [] l = absurd (omega arith)
+all_zero (a ∷ []) l = absurd (omega arith)
+all_zero (a ∷ (b ∷ [])) l = absurd (omega arith)
+all_zero (a ∷ (b ∷ (c ∷ []))) l = absurd (omega arith)
+all_zero (a ∷ (b ∷ (c ∷ (d ∷ [])))) l =
+    rw (or-none (bit_or a b) (bit_or c d), or-none a b, or-none c d) (by (eqb a 0) (eqb b 0) (eqb c 0) (eqb d 0))
+  where
+    by : (a b c d : Bool) → (a && (b && (c && (d && true)))) ≡ ((a && b) && (c && d))
+    by false b c d = refl
+    by true false c d = refl
+    by true true false d = refl
+    by true true true false = refl
+    by true true true true = refl
+all_zero (a ∷ (b ∷ (c ∷ (d ∷ (x ∷ ws))))) l = absurd (omega arith)
 
 -- each of the four words is 0
 word-zero : (s : Addresses) → is_empty s ≡ true → (i : ℕ) → i < 4 → get_or s.words i 0 ≡ 0

@@ -73,11 +73,20 @@ lowest-past p a (suc m) n none =
 
 -- ---- the count in a loop that goes up from a
 
+module _ (p : ℕ → Bool) (a : ℕ) where
+  -- of the addresses above a
+  abbrev pub count_above : ℕ
+  count_above = count_from p (suc a) (255 - a)
+
 pub count-step : (p : ℕ → Bool) (a : ℕ) → a < 256 → (b : Bool) → p a ≡ b → count_from p a (256 - a) ≡ cond b 1 0 + count_from p (a + 1) (256 - (a + 1))
 unfolding count_from
 count-step p a h b e =
     let n : 256 - a ≡ suc (256 - (a + 1)) = omega arith in
     rw (n, ← add-one a, e)
+
+pub count-end : (p : ℕ → Bool) (a : ℕ) → 255 ≤ a → count_above p a ≡ 0
+unfolding count_from
+count-end p a h = let n : 255 - a ≡ 0 = omega arith in rw n
 
 -- ---- fewer pass a narrower test
 

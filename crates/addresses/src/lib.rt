@@ -10,7 +10,7 @@ ghost use Rattle.addresses.specs.Search.{lowest_above};
 #[derive(Clone, Copy)]
 pub struct Addresses {
     // Address a is bit a % 64 of word a / 64.
-    words: [u64; 4],
+    pub words: [u64; 4],
 }
 
 impl Addresses {
@@ -42,21 +42,18 @@ impl Addresses {
         ensures { self.new ≡ excluding self.old a }
     {
         let i = usize::from(a / 64);
-        let w = self.words[i];
-        // Kept: `&= !mask` is no plainer here, since the definition `excluding` would have to say what `!` is of 64 bits.
-        self.words[i] = w ^ (w & (1 << (a % 64)));
+        self.words[i] &= !(1 << (a % 64));
     }
 
     // Whether no address is in the set.
     pub fn is_empty(&self) -> bool
         ensures { result ≡ is_empty self.now }
     {
-        // Kept: one test of the words joined, as the definition `is_empty` says; `self.words == [0; 4]` says no more in code.
-        ((self.words[0] | self.words[1]) | (self.words[2] | self.words[3])) == 0
+        self.words == [0; 4]
     }
 
     // The lowest address of the set above one: word by word, by the zeros below a word's lowest bit.
-    // Kept: `above` is a u64, for callers that ask above any number.
+    // Kept: `above` is a u64, since a narrower type would ask more of callers (what may not change, `lowest_above`).
     pub fn lowest_above(&self, above: u64) -> Option<u8>
         ensures { result ≡ lowest_above (holds self.now) above }
     {

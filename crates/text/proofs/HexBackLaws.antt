@@ -1,5 +1,5 @@
 -- WHAT IS WRITTEN IN HEX IS READ: a number as k digits, and bytes as two digits each. Upper and lower case are read alike.
-use Rattle.std.specs.Prelude.{◌≡◌, refl, Bool, true, false, cond, List, [], ◌∷◌, ◌++◌, ℕ, zero, suc, ◌+◌, ◌*◌, ◌/◌, ◌%◌, ◌^◌, ◌<◌, ltb, leb, length, Option, Some, None}
+use Rattle.std.specs.Prelude.{◌≡◌, refl, Bool, true, false, cond, List, [], ◌∷◌, ◌++◌, ℕ, zero, suc, ◌+◌, ◌*◌, ◌/◌, ◌%◌, ◌^◌, ◌<◌, ltb, leb, length, Option, Some}
 use Rattle.std.specs.Option.{is_some, unwrap_or}
 use Rattle.std.proofs.Common.{sym, ap, ◌∙◌, append-nil, arith, div-add-mod', mod-lt, pow-suc, length-append, ltb-true, ltb-false, lt-ltb, leb-true}
 use Rattle.decimal.specs.DigitLaws.{both_true}
@@ -25,10 +25,10 @@ letter-back d h = by (ltb d 10) refl
     by true e = let l = ltb-true d 10 e in digit-number (48 + d) (omega arith) (omega arith) ∙ ap {A = ℕ} {B = Option ℕ} Some (omega arith)
     by false e = let l = ltb-false d 10 e in digit-upper (55 + d) (omega arith) (omega arith) ∙ ap {A = ℕ} {B = Option ℕ} Some (omega arith)
 
-hex-more : (v : ℕ) (s : List ℕ) (b : ℕ) → hex_from v (s ++ (b ∷ [])) ≡ hex_from v s * 16 + unwrap_or (hex_digit b) 0
+hex-more : (v : ℕ) (s : List ℕ) (b : ℕ) → hex_from v (s ++ (b ∷ [])) ≡ hex_from v s * 16 + unwrap_or (hex_digit b) 16
 unfolding hex_from
 hex-more v [] b = refl
-hex-more v (a ∷ s) b = hex-more (v * 16 + unwrap_or (hex_digit a) 0) s b
+hex-more v (a ∷ s) b = hex-more (v * 16 + unwrap_or (hex_digit a) 16) s b
 
 all_more : (s : List ℕ) (b : ℕ) → all_hex s ≡ true → is_some (hex_digit b) ≡ true → all_hex (s ++ (b ∷ [])) ≡ true
 unfolding all_hex
@@ -129,7 +129,7 @@ lowered-digit b = by (between 65 70 b) refl
 pub lowered-alike : (v : ℕ) (s : List ℕ) → hex_from v (lowered_all s) ≡ hex_from v s
 unfolding hex_from lowered_all
 lowered-alike v [] = refl
-lowered-alike v (b ∷ s) = ap (λ (d : Option ℕ). hex_from (v * 16 + unwrap_or d 0) (lowered_all s)) (lowered-digit b) ∙ lowered-alike (v * 16 + unwrap_or (hex_digit b) 0) s
+lowered-alike v (b ∷ s) = ap (λ (d : Option ℕ). hex_from (v * 16 + unwrap_or d 16) (lowered_all s)) (lowered-digit b) ∙ lowered-alike (v * 16 + unwrap_or (hex_digit b) 16) s
 
 lowered-length : (s : List ℕ) → length (lowered_all s) ≡ length s
 unfolding lowered_all

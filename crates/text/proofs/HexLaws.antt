@@ -1,7 +1,7 @@
 -- Laws of hex digits: how large the number of some digits is, digits of either case, and what is written is read.
-use Rattle.std.specs.Prelude.{◌≡◌, refl, Bool, true, false, cond, ◌&&◌, List, [], ◌∷◌, ◌++◌, ℕ, suc, ◌+◌, ◌-◌, ◌*◌, ◌^◌, ◌≤◌, ◌<◌, leb, ltb, length, get_or, take, drop, Option, Some, None}
+use Rattle.std.specs.Prelude.{◌≡◌, refl, Bool, true, false, cond, ◌&&◌, List, [], ◌∷◌, ◌++◌, ℕ, suc, ◌+◌, ◌-◌, ◌*◌, ◌^◌, ◌≤◌, ◌<◌, leb, length, get_or, take, drop, Option, Some, None}
 use Rattle.std.specs.Option.{is_some, unwrap_or}
-use Rattle.std.proofs.Common.{ap, arith, mul_assoc, mul-le-mul_right, lt_of_lt_of_le, add-one, take-suc, leb-true, ltb-true, le-leb}
+use Rattle.std.proofs.Common.{ap, arith, mul_assoc, mul-le-mul_right, lt_of_lt_of_le, add-one, take-suc, leb-true, le-leb}
 use Rattle.std.proofs.Math.Nat.{pow-succ', pow-le-pow_right}
 use Rattle.std.proofs.lemmas.Bool.{lt-leb}
 use Rattle.decimal.specs.DigitLaws.{both_true}
@@ -42,21 +42,31 @@ pub cases_alike : (b : ℕ) → 65 ≤ b → b ≤ 70 → hex_digit (b + 32) ≡
 cases_alike b h i = rw (digit-upper b h i, digit-lower (b + 32) (omega arith) (omega arith)) (ap {A = ℕ} {B = Option ℕ} Some (omega arith))
 
 -- every digit is below 16
-pub digit-most : (b : ℕ) → unwrap_or (hex_digit b) 0 < 16
+pub digit-below : (b : ℕ) → is_some (hex_digit b) ≡ true → unwrap_or (hex_digit b) 16 < 16
 unfolding hex_digit
-digit-most b = first (between 48 57 b) refl
+digit-below b = first (between 48 57 b) refl
   where
-    third : (t : Bool) → between 97 102 b ≡ t → unwrap_or (cond t (Some (b - 87)) None) 0 < 16
-    third true e = omega (arith, leb-true b 102 (both_true (leb 97 b) (leb b 102) e).1)
-    third false e = omega arith
+    third : (t : Bool) → between 97 102 b ≡ t → is_some (cond t (Some (b - 87)) None) ≡ true → unwrap_or (cond t (Some (b - 87)) None) 16 < 16
+    third true e h = omega (arith, leb-true b 102 (both_true (leb 97 b) (leb b 102) e).1)
+    third false e h = absurd (cc h)
 
-    second : (t : Bool) → between 65 70 b ≡ t → unwrap_or (cond t (Some (b - 55)) (cond (between 97 102 b) (Some (b - 87)) None)) 0 < 16
-    second true e = omega (arith, leb-true b 70 (both_true (leb 65 b) (leb b 70) e).1)
-    second false e = third (between 97 102 b) refl
+    second : (t : Bool) → between 65 70 b ≡ t → is_some (cond t (Some (b - 55)) (cond (between 97 102 b) (Some (b - 87)) None)) ≡ true
+        → unwrap_or (cond t (Some (b - 55)) (cond (between 97 102 b) (Some (b - 87)) None)) 16 < 16
+    second true e h = omega (arith, leb-true b 70 (both_true (leb 65 b) (leb b 70) e).1)
+    second false e h = third (between 97 102 b) refl h
 
-    first : (t : Bool) → between 48 57 b ≡ t → unwrap_or (cond t (Some (b - 48)) (cond (between 65 70 b) (Some (b - 55)) (cond (between 97 102 b) (Some (b - 87)) None))) 0 < 16
-    first true e = omega (arith, leb-true b 57 (both_true (leb 48 b) (leb b 57) e).1)
-    first false e = second (between 65 70 b) refl
+    first : (t : Bool) → between 48 57 b ≡ t → is_some (cond t (Some (b - 48)) (cond (between 65 70 b) (Some (b - 55)) (cond (between 97 102 b) (Some (b - 87)) None))) ≡ true
+        → unwrap_or (cond t (Some (b - 48)) (cond (between 65 70 b) (Some (b - 55)) (cond (between 97 102 b) (Some (b - 87)) None))) 16 < 16
+    first true e h = omega (arith, leb-true b 57 (both_true (leb 48 b) (leb b 57) e).1)
+    first false e h = second (between 65 70 b) refl h
+
+-- and no byte counts more than 16
+pub digit-most : (b : ℕ) → unwrap_or (hex_digit b) 16 ≤ 16
+digit-most b = by (hex_digit b) (digit-below b)
+  where
+    by : (d : Option ℕ) → (is_some d ≡ true → unwrap_or d 16 < 16) → unwrap_or d 16 ≤ 16
+    by None h = omega arith
+    by (Some d) h = omega (arith, h refl)
 
 -- ---- the number of some digits
 pub all_head : (b : ℕ) (s : List ℕ) → all_hex (b ∷ s) ≡ true → is_some (hex_digit b) ≡ true
@@ -70,16 +80,16 @@ all_tail b s e = (both_true (is_some (hex_digit b)) (all_hex s) e).1
 pub hex-grows : (v : ℕ) (s : List ℕ) → v ≤ hex_from v s
 unfolding hex_from
 hex-grows v [] = omega arith
-hex-grows v (b ∷ s) = omega (arith, hex-grows (v * 16 + unwrap_or (hex_digit b) 0) s)
+hex-grows v (b ∷ s) = omega (arith, hex-grows (v * 16 + unwrap_or (hex_digit b) 16) s)
 
 -- k digits stand for a number below 16 ^ k
 pub hex-below : (v : ℕ) (s : List ℕ) → all_hex s ≡ true → hex_from v s < suc v * 16 ^ length s
 unfolding hex_from
 hex-below v [] e = omega arith
 hex-below v (b ∷ s) e =
-    let l = digit-most b in
-    let m : suc (v * 16 + unwrap_or (hex_digit b) 0) ≤ suc v * 16 = omega arith in
-    let r = hex-below (v * 16 + unwrap_or (hex_digit b) 0) s (all_tail b s e) in
+    let l = digit-below b (all_head b s e) in
+    let m : suc (v * 16 + unwrap_or (hex_digit b) 16) ≤ suc v * 16 = omega arith in
+    let r = hex-below (v * 16 + unwrap_or (hex_digit b) 16) s (all_tail b s e) in
     lt_of_lt_of_le r (rw (pow-succ' 16 (length s), ← mul_assoc (suc v) 16 (16 ^ length s)) (mul-le-mul_right (16 ^ length s) m))
 
 -- what a word of hex digits is

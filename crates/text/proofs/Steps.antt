@@ -8,7 +8,7 @@ use native.Mathlib.Numerals.{add-one}
 use lib.Dec.{eqb}
 use lib.ListN.{length, get_or, drop, drop_of_length-le}
 use lib.Seq.{drop-cons}
-use borrow.Author.Tests.{eq-eqb, ne_eqb, lt-ltb}
+use borrow.Author.Tests.{eq-eqb, ne_eqb}
 use Rattle.text.specs.Marks.{space}
 use Rattle.text.specs.WordSteps.{unspaced_of, word_length}
 use Rattle.std.specs.Option.{unwrap_or}
@@ -55,7 +55,7 @@ spaces-behind (b ∷ s) = by (eqb b space) (spaces-behind s)
     by false ih = refl
 
 -- ---- hex digits
-pub hex-drop : (v : ℕ) (s : List ℕ) (i : ℕ) → i < length s → hex_from (v * 16 + unwrap_or (hex_digit (get_or s i 0)) 0) (drop (i + 1) s) ≡ hex_from v (drop i s)
+pub hex-drop : (v : ℕ) (s : List ℕ) (i : ℕ) → i < length s → hex_from (v * 16 + unwrap_or (hex_digit (get_or s i 0)) 16) (drop (i + 1) s) ≡ hex_from v (drop i s)
 unfolding hex_from
 hex-drop v s i h = rw (add-one i, drop-cons s i 0 h)
 

@@ -24,10 +24,10 @@ all_hex s = list_all (λ b. is_some (hex_digit b)) s
 unfoldable pub is_hex : ℕ → ℕ → List ℕ → Bool
 is_hex least most s = leb least (length s) && (leb (length s) most && all_hex s)
 
--- the number that hex digits stand for, behind digits that stand for v
+-- the number that hex digits stand for, behind digits that stand for v; a byte that is none counts 16
 unfoldable pub hex_from : ℕ → List ℕ → ℕ
 hex_from v [] = v
-hex_from v (b ∷ s) = hex_from (v * 16 + unwrap_or (hex_digit b) 0) s
+hex_from v (b ∷ s) = hex_from (v * 16 + unwrap_or (hex_digit b) 16) s
 
 abbrev pub hex_of : List ℕ → ℕ
 hex_of s = hex_from 0 s

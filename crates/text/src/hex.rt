@@ -50,7 +50,7 @@ pub fn value(s: &[u8]) -> u32
 {
     let mut v: u32 = 0;
     for b in s {
-        v = v * 16 + u32::from(digit(*b).unwrap_or(0));
+        v = v * 16 + u32::from(digit(*b).unwrap_or(16));
     }
     v
 }

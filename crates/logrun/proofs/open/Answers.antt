@@ -1,5 +1,5 @@
 -- `logrun::open` meets its contract: a table that loads is told by the header, a refused one by its line.
-use Rattle.std.proofs.Common.{◌≡◌, sym, ap, ◌∙◌, Some, None, arith, rules}
+use Rattle.std.proofs.Common.{◌≡◌, sym, ap, ◌∙◌, Some, None, arith}
 use Rattle.lines.specs.LineLaws.{longest, header-line-at-most, load-line-at-most}
 use Rattle.panel.specs.declared.Loaded.{Loaded}
 use Rattle.panel.specs.Load.{loaded_of}

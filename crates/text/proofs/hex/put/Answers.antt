@@ -1,6 +1,5 @@
 -- `text::hex::put` meets its contract: nothing, or the first byte and then the others.
 use native.Mathlib.Omega.{arith}
-use borrow.Author.Rules.{rules}
 use Rattle.text.specs.Hex.{hex_text}
 use Rattle.text.specs.PutLaws.{put-none, put_both}
 use Rattle.text.proofs.HexLaws.{text-none}

@@ -14,7 +14,7 @@ overflow_mul-v c =
     let s = c.args.s.now in
     let l = c.loop-b in
     let h = hex-parts 1 8 s c.requires in
-    let v = l.v * 16 + unwrap_or (hex_digit (get_or s l.b-index 0)) 0 in
+    let v = l.v * 16 + unwrap_or (hex_digit (get_or s l.b-index 0)) 16 in
     let next : v < 2 ^ 32 = omega (arith, hex-grows v (drop (l.b-index + 1) s), hex-drop l.v s l.b-index c.loop-b-test.true, l.invariant, hex-fits 8 s h.few h.all) in
     omega arith
 
@@ -23,7 +23,7 @@ overflow_add-v c =
     let s = c.args.s.now in
     let l = c.loop-b in
     let h = hex-parts 1 8 s c.requires in
-    let v = l.v * 16 + unwrap_or (hex_digit (get_or s l.b-index 0)) 0 in
+    let v = l.v * 16 + unwrap_or (hex_digit (get_or s l.b-index 0)) 16 in
     let next : v < 2 ^ 32 = omega (arith, hex-grows v (drop (l.b-index + 1) s), hex-drop l.v s l.b-index c.loop-b-test.true, l.invariant, hex-fits 8 s h.few h.all) in
     rw (c.from.ensures, c.unwrap_or.ensures, c.digit.ensures) (omega arith)
 
