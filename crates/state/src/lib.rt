@@ -154,7 +154,7 @@ fn higher(a: i32, b: i32) -> i32
 fn widened(x: Option<Extremes>, r: Reading) -> Option<Extremes>
     ensures { result ≡ widened_of x r }
 {
-    if error_in(r) != 0 {
+    if r.error.is_some() {
         return x;
     }
     match x {
