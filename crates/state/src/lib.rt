@@ -8,7 +8,7 @@ ghost use Rattle.std.specs.Int.Signed.{lt_z};
 ghost use Rattle.state.specs.State.{fresh_of, set_levels, set_basis, set_reading, set_read, set_shown, set_switches, set_driven, set_recorded};
 ghost use Rattle.driverecord.specs.DriveRecord.{present_of};
 ghost use Rattle.driverecord.specs.Numbers.{Number, Numbers};
-ghost use Rattle.state.specs.Extremes.{error_in, widened_of};
+ghost use Rattle.state.specs.Extremes.{widened_of};
 ghost use Rattle.state.specs.Refusal.{refusal_number, note_number};
 
 use driverecord::DriveRecord;
@@ -103,14 +103,6 @@ pub fn fresh(table: [i32; 104]) -> State
             switches: [off; 4],
         },
     }
-}
-
-// The number of a reading's error.
-pub fn error_in(r: Reading) -> u32
-    ensures { result ≡ error_in r }
-{
-    let e = r.error;
-    measurement::error_number(e)
 }
 
 // The number of a refusal.
