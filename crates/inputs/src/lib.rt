@@ -3,8 +3,9 @@
 // `switching` for the locks, `driverecord` for the record.
 #![tactic(auto)]
 
-ghost use Rattle.std.specs.Prelude.{◌≡◌, ◌<◌, ◌≤◌};
+ghost use Rattle.std.specs.Prelude.{◌≡◌, ◌<◌, ◌≤◌, eqb};
 ghost use Rattle.integers.specs.Limit.{Z};
+ghost use Rattle.measurement.specs.Measure.{error_number};
 ghost use Rattle.parameters.specs.Valid.{Valid};
 ghost use Rattle.settings.specs.Settings.{Aimed, input_at};
 ghost use Rattle.state.specs.State.{state_of, halves_in};
@@ -14,15 +15,23 @@ ghost use Rattle.inputs.specs.Commands.{acted, left_by, reset_refusal, reset_of,
 ghost use Rattle.inputs.specs.Levels.{high_at, on_rise, acts_on, edge_in, input_acts, commands_of, marks_left};
 ghost use Rattle.inputs.specs.Freeze.{lasts, freezes, frozen, shown_by};
 
+use measurement::Error;
 use reading::Halves;
 use settings::{Action, Config};
 use state::{Extremes, Live, Outcome, Refusal};
 
-// Why a reset is refused, if it is: nothing to take before the offset's range.
-fn reset_refusal(seen: bool, error: u32, start: u32) -> Option<Refusal>
-    ensures { result ≡ reset_refusal seen error start }
+// Whether an error is 3, that of the error bit.
+fn is_error_bit(error: Option<Error>) -> bool
+    ensures { result ≡ eqb (error_number error) 3 }
 {
-    if !seen | (error == 3) {
+    matches!(error, Some(Error::ErrorBit))
+}
+
+// Why a reset is refused, if it is: nothing to take before the offset's range.
+fn reset_refusal(seen: bool, error: Option<Error>, start: u32) -> Option<Refusal>
+    ensures { result ≡ reset_refusal seen (error_number error) start }
+{
+    if !seen | is_error_bit(error) {
         return Some(Refusal::NothingToTake);
     }
     if (integers::Z as u32) < start {
@@ -32,10 +41,10 @@ fn reset_refusal(seen: bool, error: u32, start: u32) -> Option<Refusal>
 }
 
 // Why a teach is refused, if it is.
-fn teach_refusal(seen: bool, error: u32) -> Option<Refusal>
-    ensures { result ≡ teach_refusal seen error }
+fn teach_refusal(seen: bool, error: Option<Error>) -> Option<Refusal>
+    ensures { result ≡ teach_refusal seen (error_number error) }
 {
-    if seen & (error == 0) {
+    if seen & error.is_none() {
         return None;
     }
     Some(Refusal::NothingToTake)
@@ -68,10 +77,10 @@ fn clear_locks(l: Live) -> Live
 }
 
 // Least and greatest both at a result, or none before the first telegram or under an error.
-fn extremes_at(seen: bool, error: u32, res: i32) -> Option<Extremes>
-    ensures { result ≡ extremes_at seen error res }
+fn extremes_at(seen: bool, error: Option<Error>, res: i32) -> Option<Extremes>
+    ensures { result ≡ extremes_at seen (error_number error) res }
 {
-    if seen & (error == 0) {
+    if seen & error.is_none() {
         return Some(Extremes {
             least: res,
             greatest: res,
@@ -85,7 +94,7 @@ fn clear_extremes(l: Live) -> Live
     ensures { result ≡ extremes_cleared l }
 {
     let r = l.reading;
-    let x = extremes_at(l.seen, state::error_in(r), r.result);
+    let x = extremes_at(l.seen, r.error, r.result);
     let was = l.driven;
     state::with_record(state::with_reading(l, r, x), driverecord::empty(was))
 }
@@ -104,7 +113,8 @@ fn teach(t: &mut [i32; 104], l: Live, k: usize) -> Live
 fn refusal(a: Action, t: &[i32; 104], l: Live) -> Option<Refusal>
     ensures { result ≡ refusal_of a (state_of t.now l) }
 {
-    let error = state::error_in(l.reading);
+    let r = l.reading;
+    let error = r.error;
     let b = l.basis;
     match a {
         Action::None => None,

@@ -95,7 +95,7 @@ fn frozen_by_edge(t: &[i32; 104], i: usize) -> bool
 fn freeze_on_edge(t: &[i32; 104]) -> bool
     ensures { result ≡ freeze_on_edge t.now }
 {
-    frozen_by_edge(t, 0) | frozen_by_edge(t, 1) | frozen_by_edge(t, 2)
+    (0..3).any(|i| frozen_by_edge(t, i))
 }
 
 // Whether preselections j + 1 and k + 1 aim at one output and differ in polarity.
@@ -119,14 +119,14 @@ fn differs_from(t: &[i32; 104], j: usize) -> bool
     requires { j < 4 }
     ensures { result ≡ differs_from t.now j }
 {
-    differs(t, j, 0) | differs(t, j, 1) | differs(t, j, 2) | differs(t, j, 3)
+    (0..4).any(|k| differs(t, j, k))
 }
 
 // 9: two preselections on one output, polarities differ.
 fn polarities_differ(t: &[i32; 104]) -> bool
     ensures { result ≡ polarities_differ t.now }
 {
-    differs_from(t, 0) | differs_from(t, 1) | differs_from(t, 2) | differs_from(t, 3)
+    (0..4).any(|j| differs_from(t, j))
 }
 
 // The first of the checks 3 to 9 that fails.

@@ -1,7 +1,7 @@
 -- For every table that loads: a reading without error lies within 1/2 + S/2 of L(E), within 1/2 with linearization off, and every result is from −Z to Z,
 -- 0 under an error; its drive is that of its code, or off.
 -- Paper 01, demand 3's accuracy for one telegram.
-use Rattle.std.specs.Prelude.{None, Some, ◌≡◌, refl, Bool, true, false, cond, List, ℕ, eqb, ℤ, pos, neg_ℤ}
+use Rattle.std.specs.Prelude.{Option, None, Some, is_some, ◌≡◌, refl, Bool, true, false, cond, not, List, ℕ, eqb, ℤ, pos, neg_ℤ}
 use Rattle.std.proofs.Common.{arith}
 use Rattle.std.specs.Int.Signed.{lt_z}
 use Rattle.analog.proofs.CodeLaws.{code_fits}
@@ -12,7 +12,7 @@ use Rattle.integers.specs.IntLaws.{excl, within}
 use Rattle.integers.specs.Int.{Within}
 use Rattle.integers.specs.RingLaws.{var, neg, lit, nlt-ex}
 use Rattle.integers.specs.Fraction.{Accurate}
-use Rattle.measurement.specs.declared.Error.TheVariants as Error
+use Rattle.measurement.specs.declared.Error.{Error}
 use Rattle.measurement.specs.declared.Measured.{Measured}
 use Rattle.measurement.proofs.AccuracyLaws.{reading-accurate}
 use Rattle.measurement.specs.Measure.{error_number, measured, judged_of, value_of, measured_of}
@@ -43,6 +43,13 @@ judged-within b z =
 pub result-within : (t : List ℤ) (b : Basis) → Within Z (reading_of t b).result
 unfolding reading_of measured_at measured_of
 result-within t b = judged-within b.reported (value_of (scaling_of t) (points_of t) b.start)
+
+-- no error has the number 0, and no other has
+pub no-error-numbered : (e : Option Error) → eqb (error_number e) 0 ≡ not (is_some e)
+no-error-numbered None = refl
+no-error-numbered (Some Error.AboveRange) = refl
+no-error-numbered (Some Error.BelowRange) = refl
+no-error-numbered (Some Error.ErrorBit) = refl
 
 -- ---- under an error the result is 0, and error 3 is in force exactly where the error bit reports
 

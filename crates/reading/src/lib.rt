@@ -141,8 +141,7 @@ fn driven(a: Span, m: Measured, code: i32) -> Drive
     requires { code ≡ code_at a m }
     ensures { result ≡ drive_at a m }
 {
-    let e = m.error;
-    if measurement::error_number(e) == 0 {
+    if m.error.is_none() {
         return analog::drive_of(a.format, code);
     }
     Drive::Off
@@ -180,9 +179,7 @@ pub fn halves_number(h: Halves) -> u8
 fn marks(x: Measurement, analog: bool) -> Halves
     ensures { result ≡ marks_of x analog }
 {
-    let m = x.measured;
-    let error = m.error;
-    if measurement::error_number(error) == 0 {
+    if x.measured.error.is_none() {
         return Halves {
             scaling: x.scaling,
             linearization: x.linearization,

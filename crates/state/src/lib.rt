@@ -8,7 +8,7 @@ ghost use Rattle.std.specs.Int.Signed.{lt_z};
 ghost use Rattle.state.specs.State.{fresh_of, set_levels, set_basis, set_reading, set_read, set_shown, set_switches, set_driven, set_recorded};
 ghost use Rattle.driverecord.specs.DriveRecord.{present_of};
 ghost use Rattle.driverecord.specs.Numbers.{Number, Numbers};
-ghost use Rattle.state.specs.Extremes.{error_in, widened_of};
+ghost use Rattle.state.specs.Extremes.{widened_of};
 ghost use Rattle.state.specs.Refusal.{refusal_number, note_number};
 
 use driverecord::DriveRecord;
@@ -105,14 +105,6 @@ pub fn fresh(table: [i32; 104]) -> State
     }
 }
 
-// The number of a reading's error.
-pub fn error_in(r: Reading) -> u32
-    ensures { result ≡ error_in r }
-{
-    let e = r.error;
-    measurement::error_number(e)
-}
-
 // The number of a refusal.
 fn refusal_number(r: Refusal) -> u8
     ensures { result ≡ refusal_number r }
@@ -154,7 +146,7 @@ fn higher(a: i32, b: i32) -> i32
 fn widened(x: Option<Extremes>, r: Reading) -> Option<Extremes>
     ensures { result ≡ widened_of x r }
 {
-    if error_in(r) != 0 {
+    if r.error.is_some() {
         return x;
     }
     match x {

@@ -10,4 +10,4 @@ returns c = let r = c in
     let x = r in
     let l = x.args.l in
     let e : bk w32 l.reading.result ≡ l.reading.result = search rules in
-    rw (c.with_record.ensures, c.empty.ensures, r.with_reading.ensures, x.extremes_at-x.ensures, x.error_in.ensures, e)
+    rw (c.with_record.ensures, c.empty.ensures, r.with_reading.ensures, x.extremes_at-x.ensures, e)

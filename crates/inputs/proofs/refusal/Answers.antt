@@ -9,7 +9,7 @@ returns-in-None c = rw c.in-None.is
 pub returns-in-Reset : goal.returns-in-Reset
 unfolding refusal_of
 returns-in-Reset c = let b = c in
-    rw (b.in-Reset.is, c.reset_refusal.ensures, b.error_in-error.ensures)
+    rw (b.in-Reset.is, c.reset_refusal.ensures)
 
 pub returns-in-Freeze : goal.returns-in-Freeze
 unfolding refusal_of
@@ -26,4 +26,4 @@ returns-in-ClearExtremes c = rw c.in-ClearExtremes.is
 pub returns-in-Teach : goal.returns-in-Teach
 unfolding refusal_of
 returns-in-Teach c = let b = c in
-    rw (b.in-Teach.is, c.teach_refusal.ensures, b.error_in-error.ensures)
+    rw (b.in-Teach.is, c.teach_refusal.ensures)

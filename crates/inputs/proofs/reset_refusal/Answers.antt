@@ -3,14 +3,14 @@ use borrow.Author.Tests.{lt-ltb, le-ltb}
 use Rattle.inputs.specs.Commands.{reset_refusal}
 use Rattle.inputs.proofs.reset_refusal.Goals as goal
 
-pub returns-then-seen-error : goal.returns-then-seen-error
+pub returns-then-seen-is_error_bit : goal.returns-then-seen-is_error_bit
 unfolding reset_refusal
-returns-then-seen-error c = rw c.if-seen-error.true
+returns-then-seen-is_error_bit c = rw (← c.is_error_bit.ensures, c.if-seen-is_error_bit.true)
 
 pub returns-then-start : goal.returns-then-start
 unfolding reset_refusal
-returns-then-start c = rw (c.if-seen-error.false, lt-ltb _ _ c.if-start.true)
+returns-then-start c = rw (← c.is_error_bit.ensures, c.if-seen-is_error_bit.false, lt-ltb _ _ c.if-start.true)
 
 pub returns : goal.returns
 unfolding reset_refusal
-returns c = rw (c.if-seen-error.false, le-ltb _ _ c.if-start.false)
+returns c = rw (← c.is_error_bit.ensures, c.if-seen-is_error_bit.false, le-ltb _ _ c.if-start.false)

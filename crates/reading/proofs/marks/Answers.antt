@@ -1,16 +1,12 @@
 -- `reading::marks` meets its contract: without an error each rounding's own mark, else none.
-use borrow.Author.Tests.{eq-eqb, ne_eqb}
-use mathlib.Core.Path.{sym, ◌∙◌}
-use Rattle.measurement.specs.Measure.{error_number}
 use Rattle.reading.specs.Reading.{marks_of}
+use Rattle.reading.specs.ReadingLaws.{no-error-numbered}
 use Rattle.reading.proofs.marks.Goals as goal
 
-pub returns-then-error_number-eq0 : goal.returns-then-error_number-eq0
+pub returns-then-is_none : goal.returns-then-is_none
 unfolding marks_of
-returns-then-error_number-eq0 c = let e = error_number c.args.x.measured.error in
-    rw (eq-eqb e 0 (sym c.error_number.ensures ∙ c.if-error_number-eq0.true))
+returns-then-is_none c = rw (no-error-numbered c.args.x.measured.error, c.is_none.ensures, c.if-is_none.true)
 
 pub returns : goal.returns
 unfolding marks_of
-returns c = let e = error_number c.args.x.measured.error in
-    rw (ne_eqb e 0 (λ z. c.if-error_number-eq0.false (c.error_number.ensures ∙ z)), c.no_halves.ensures)
+returns c = rw (no-error-numbered c.args.x.measured.error, c.is_none.ensures, c.if-is_none.false, c.no_halves.ensures)
