@@ -30,10 +30,7 @@ fn kind_letter(e: Event) -> u8
 pub fn level_digit(high: bool) -> u8
     ensures { result ≡ level_digit high }
 {
-    if high {
-        return b'1';
-    }
-    b'0'
+    b'0' + u8::from(high)
 }
 
 // Puts the letter of an event's kind, and a space.
@@ -112,24 +109,20 @@ pub fn put_answer(out: &mut [u8], at: usize, t: &[i32; 104], o: Outcome) -> usiz
 const LARGEST: u64 = 999_999_999_999_999_999;
 
 // The count after one more event; it stays at the largest number that is printed.
+#[tactic(auto, unfolding(crate::specs::Lines::next_count))]
 pub fn next_count(n: u64) -> u64
     ensures { result ≡ next_count n }
 {
-    if n < LARGEST {
-        return n + 1;
-    }
-    LARGEST
+    n.saturating_add(1).min(LARGEST)
 }
 
 // The count after `k` more events; it stays there too.
+#[tactic(auto, unfolding(crate::specs::Lines::count_more))]
 pub fn count_more(n: u64, k: u32) -> u64
     ensures { result ≡ count_more n k }
 {
     let more = k as u64;
-    if n < LARGEST - more {
-        return n + more;
-    }
-    LARGEST
+    n.saturating_add(more).min(LARGEST)
 }
 
 // Puts the first line, which names the fields.

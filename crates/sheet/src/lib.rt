@@ -66,26 +66,23 @@ pub fn fresh() -> Sheet
 fn with_table(s: Sheet, table: [i32; 104]) -> Sheet
     ensures { result ≡ with_table s table }
 {
-    let mut n = s;
-    n.table = table;
-    n
+    Sheet { table, ..s }
 }
 
 fn with_given(s: Sheet, given: usize) -> Sheet
     ensures { result ≡ with_given s given }
 {
-    let mut n = s;
-    n.given = given;
-    n
+    Sheet { given, ..s }
 }
 
 fn with_run(s: Sheet, progress: Progress, running: bool) -> Sheet
     ensures { result ≡ with_run s progress running }
 {
-    let mut n = s;
-    n.progress = progress;
-    n.running = running;
-    n
+    Sheet {
+        progress,
+        running,
+        ..s
+    }
 }
 
 // A line that is none.
@@ -121,10 +118,7 @@ fn opened(bytes: &[u8], n: usize, out: &mut [u8]) -> Opened
     ensures loads { result.loaded ≡ is_none (loaded_of (table_of (take n bytes.now))).refusal }
     ensures text { Put out.old 0 (opening_text (loaded_of (table_of (take n bytes.now)))) result.end out.new }
 {
-    if n < bytes.len() {
-        return logrun::open(&bytes[..n], out);
-    }
-    logrun::open(bytes, out)
+    logrun::open(&bytes[..n.min(bytes.len())], out)
 }
 
 // The table's bytes, or as many of them as are given, are loaded.

@@ -163,7 +163,7 @@ impl Slave {
     }
 }
 
-// Serves the line to its end. The reads are counted down from a number that no line uses up.
+// Serves the line to its end, a read a turn. There are more turns than any line uses up.
 fn serve(node: u8, state: State, wires: &mut Wires)
     requires { Good state }
 {
@@ -223,20 +223,14 @@ fn start(node: u32, words: [i32; 104], rt: HostRuntime) {
 
 // A number from 0 to 65535; another one stands for 0, which is no node address either.
 fn limited(z: i64) -> u32 {
-    match u16::try_from(z) {
-        Ok(n) => u32::from(n),
-        Err(_) => 0,
-    }
+    u16::try_from(z).map_or(0, u32::from)
 }
 
 // The node address of argument 1; 0 where it is no number.
 fn node<E: Env>(env: &E) -> u32 {
     let mut word = [0u8; 32];
     let n = ports::arg(env, 1, &mut word);
-    match decimal::parse(&word[..n]) {
-        Some(z) => limited(z),
-        None => 0,
-    }
+    decimal::parse(&word[..n]).map_or(0, limited)
 }
 
 fn main(rt: HostRuntime) {
