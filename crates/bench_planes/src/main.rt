@@ -34,10 +34,7 @@ fn repeated(x: &mut [u32], y: &mut [u32], rounds: u64) -> u64 {
 
 // The number of an answer, 0 where there is none.
 fn number_of(answer: Result<(), TooShort>) -> u8 {
-    match answer {
-        Ok(()) => 0,
-        Err(refusal) => refusal.number(),
-    }
+    answer.err().map_or(0, |refusal| refusal.number())
 }
 
 // The sum over words.

@@ -47,36 +47,16 @@ fn drive_part(d: Drive) -> u64
 {
     match d {
         Drive::Off => 1,
-        Drive::Volts(x) => 2 + above(x, 5.0),
-        Drive::Milliamps(x) => 4 + above(x, 12.0),
+        Drive::Volts(x) => 2 + u64::from(5.0 < x),
+        Drive::Milliamps(x) => 4 + u64::from(12.0 < x),
     }
-}
-
-// 1 where x is above the limit, else 0.
-fn above(x: f32, limit: f32) -> u64
-    ensures { result ≤ 1 }
-{
-    if limit < x {
-        return 1;
-    }
-    0
 }
 
 // The levels of the outputs as a number.
 fn outs_part(outs: [bool; 4]) -> u64
     ensures { result ≤ 15 }
 {
-    bit(outs[0]) + 2 * bit(outs[1]) + 4 * bit(outs[2]) + 8 * bit(outs[3])
-}
-
-// 1 for high, 0 for low.
-fn bit(high: bool) -> u64
-    ensures { result ≤ 1 }
-{
-    if high {
-        return 1;
-    }
-    0
+    u64::from(outs[0]) + 2 * u64::from(outs[1]) + 4 * u64::from(outs[2]) + 8 * u64::from(outs[3])
 }
 
 // What an answer adds to the sum.

@@ -8,6 +8,7 @@ ghost use Rattle.decimal.specs.Decimal.{largest, minus, digits_of, text_of, valu
 ghost use Rattle.decimal.specs.ByteSteps.{all_digits, is_natural};
 
 // How many digits n has: the least k above 0 with n below 10 ^ k.
+// Kept: no slice is gone over that a `for` could name: the loop ends where the power of ten passes the number.
 fn places(n: u64) -> usize
     requires { n ≤ largest }
     ensures { result ≡ length (digits_of n) }
@@ -22,6 +23,7 @@ fn places(n: u64) -> usize
 }
 
 // Puts the k digits of n at the start of out, the last one first.
+// Kept: no slice is gone over that a `for` could name: the loop ends where the number does, and `i` falls with it.
 fn spell(out: &mut [u8], n: u64, k: usize)
     requires { (n ≤ largest) × (k ≡ length (digits_of n)) × (k ≤ length out.old) }
     ensures { out.new ≡ digits_of n ++ drop k out.old }

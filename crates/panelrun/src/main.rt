@@ -20,7 +20,7 @@ fn run<R: Read, W: Write>(p: Progress, reader: &mut R, writer: &mut W)
     let mut q = p;
     let mut input = [0u8; PIECE];
     let mut output = [0u8; PRINTED];
-    'pieces: for _ in 0..u64::MAX {
+    for _ in 0..u64::MAX {
         let n = ports::read_full(reader, &mut input);
         let r = logrun::run_piece(q, &input[..n], PIECE, &mut output);
         let end = r.end;

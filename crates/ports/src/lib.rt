@@ -23,6 +23,7 @@ pub fn read_some<R: Read>(input: &mut R, buf: &mut [u8]) -> usize
 }
 
 // Reads until buf is full, the input ends or a read fails; says how many bytes it put at the start of buf. With no room it does not read.
+// Kept: no slice is gone over that a `for` could name: each turn goes on by as many bytes as its read took, and the input may end before buf does.
 pub fn read_full<R: Read>(input: &mut R, buf: &mut [u8]) -> usize
     ensures bound { result ≤ length buf.new }
     ensures prefix { result ≡ length (take result buf.new) }

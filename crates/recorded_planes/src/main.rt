@@ -15,7 +15,7 @@ const ROOM: usize = 1002;
 
 // The word behind x of a list: 1,664,525 x + 1,013,904,223 modulo 2^32.
 fn next(x: u32) -> u32 {
-    (((x as u64) * 1664525 + 1013904223) % 0x1_0000_0000) as u32
+    x.wrapping_mul(1664525).wrapping_add(1013904223)
 }
 
 // A list: each word from the one before, the first from 1.
@@ -57,10 +57,9 @@ fn print_words_of_line<W: Write>(line: &[u32], printer: &mut W) {
 
 // The number of an answer, 0 where there is none.
 fn number_of(answer: Result<(), TooShort>) -> u64 {
-    match answer {
-        Ok(()) => 0,
-        Err(refusal) => refusal.number() as u64,
-    }
+    answer
+        .err()
+        .map_or(0, |refusal| u64::from(refusal.number()))
 }
 
 // A word of text, a number, and the end of the line.

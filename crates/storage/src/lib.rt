@@ -11,7 +11,7 @@ const PIECE: usize = 8192;
 pub fn run<R: Read, W: Write>(reader: &mut R, writer: &mut W) {
     let mut input = [0; PIECE];
     let mut output = [0; PIECE];
-    'pieces: for _ in 0..u64::MAX {
+    for _ in 0..u64::MAX {
         let n = ports::read_full(reader, &mut input);
         if recorder::turn(&input[..n], &mut output).is_err() {
             return;

@@ -1,5 +1,4 @@
 -- `bench_step::repeated` is safe. The invariant: the state is valid, as `run_once` promises.
-use Rattle.std.proofs.Common.{rules}
 use Rattle.state.specs.State.{state_of}
 use Rattle.state.specs.Valid.{Good}
 use Rattle.bench_step.proofs.repeated.Given as goal

@@ -1,5 +1,4 @@
 -- `bench_step::run_once` meets its contract. The invariant: the state stays valid, as `panel::advance` promises.
-use Rattle.std.proofs.Common.{rules}
 use Rattle.state.specs.State.{state_of}
 use Rattle.state.specs.Valid.{Good}
 use Rattle.bench_step.proofs.run_once.Given as goal

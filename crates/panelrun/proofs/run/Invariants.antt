@@ -2,5 +2,5 @@
 use Rattle.logrun.specs.Progress.{Ready}
 use Rattle.panelrun.proofs.run.Given as goal
 
-abbrev pub invariant-pieces : goal.invariant-pieces
-invariant-pieces g l = Ready l.q
+abbrev pub invariant-loop : goal.invariant-loop
+invariant-loop g l = Ready l.q
