@@ -1,22 +1,47 @@
 -- `script::frames::gathered` meets its contract: each turn stores the number that one word is, and the words behind it are left.
-use mathlib.Core.Path.{◌≡◌, ap}
-use mathlib.Core.List.{List, []}
-use Prim.Native.Nat.{ℕ}
+use mathlib.Core.Path.{◌≡◌, refl}
+use native.Mathlib.Omega.{arith}
+use lib.ListN.{length}
+use Rattle.std.proofs.Common.{inl}
+use Rattle.std.proofs.lemmas.Iterator.Consumers.{YieldsList-from_first, count_from_yields_List}
 use Rattle.text.specs.Words.{words_of}
+use Rattle.text.specs.WordLaws.{words-few}
 use Rattle.script.specs.Commands.{is_frame}
-use Rattle.script.proofs.GatherLaws.{left-all, left-hex, left-next}
+use Rattle.script.proofs.GatherLaws.{left-all, left-hex, left-room, left-next, left-count}
 use Rattle.script.proofs.FrameLaws.{bytes_packed}
 use Rattle.script.proofs.frames.gathered.Goals as goal
 
-pub loop-w-init : goal.loop-w-init
+pub loop-n-init : goal.loop-n-init
 unfolding is_frame
-loop-w-init c = (tt, tt, rw (ap (λ x. words_of x.text.now) c.into_iter-w-iterator.ensures.into_iter_gives) (left-all _ _ _ _ c.requires))
+loop-n-init c =
+    let into = c.into_iter-n-iterator.ensures.into_iter_gives in
+    let made = c.enumerate-n-items.ensures in (
+      (tt, tt, rw (into, made.source, made.count) (inl (omega (arith, words-few c.args.s.now)))),
+      tt,
+      rw (into, made.source, made.count) (left-all _ _ _ _ c.requires),
+    )
 
 pub byte-requires : goal.byte-requires
-byte-requires c = left-hex _ _ _ _ _ _ _ _ (rw c.in-Some.ensures.steps at c.loop-w.invariant.2)
+byte-requires c = left-hex _ _ _ _ _ _ _ _ (rw c.in-Some.ensures.steps.0 at c.loop-n.invariant.2)
 
-pub loop-w-preserved : goal.loop-w-preserved
-loop-w-preserved c = (tt, tt, rw c.byte.ensures (left-next _ _ _ _ _ _ _ _ (rw c.in-Some.ensures.steps at c.loop-w.invariant.2)))
+pub bounds-bytes-n : goal.bounds-bytes-n
+bounds-bytes-n c = rw c.in-Some.ensures.steps.1 (left-room _ _ _ _ _ _ _ _ (rw c.in-Some.ensures.steps.0 at c.loop-n.invariant.2))
+
+pub loop-n-preserved : goal.loop-n-preserved
+loop-n-preserved c =
+    let s = c.in-Some.ensures.steps in
+    let l = left-next _ _ _ _ _ _ _ _ (rw s.0 at c.loop-n.invariant.2) in (
+      (tt, tt, rw s.2 (inl (omega (arith, l.room)))),
+      tt,
+      rw (c.byte.ensures, s.1, s.2) l,
+    )
+
+pub count-requires-clause-fits : goal.count-requires-clause-fits
+count-requires-clause-fits c = inl (omega (arith, words-few c.args.s.now))
 
 pub returns : goal.returns
-returns c = bytes_packed _ _ _ (rw c.in-None.ensures.steps.0 at c.loop-w.invariant.2)
+returns c =
+    let ws = words_of c.args.s.now in
+    let n : c.count.result ≡ length ws = count_from_yields_List _ _ c.count.ensures.ran (YieldsList-from_first (λ x. x.now) (λ s. words_of s.text.now) {s = record { text = c.args.s }} ws refl) in
+    let l = rw c.in-None.ensures.steps.0.0 at c.loop-n.invariant.2 in
+    rw (n, ← left-count _ _ _ _ _ _ l) (bytes_packed _ _ _ l)
