@@ -87,7 +87,7 @@ pub fn code(format: u32, start: i32, end: i32, r: i32) -> Coded
     Coded { code, half }
 }
 
-// Kept: three functions of one line, since each is the paper's own formula, and its float steps have to stand as the paper has them.
+// Kept: three functions of one line, since one with an offset would add 0 in formats 0 and 1, a step that `float_of` does not have; `Unrounded` and `drive_value` speak of its steps.
 // code * 10 / 32768 volts.
 fn volts(code: i32) -> f32
     requires { CodeFits 0 code }

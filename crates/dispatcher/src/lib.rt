@@ -88,10 +88,10 @@ pub fn fresh() -> Dispatcher
 fn address_of(address: u32) -> Result<u8, Refusal>
     ensures { result ≡ address_of address }
 {
-    if address < LOWEST || HIGHEST < address {
+    if !(LOWEST..=HIGHEST).contains(&address) {
         return Err(Refusal::NoPanel);
     }
-    Ok(address as u8)
+    u8::try_from(address).map_err(|_| Refusal::NoPanel)
 }
 
 impl Group {

@@ -61,7 +61,7 @@ fn divided(d: i64, r: i64) -> i64
 }
 
 // d modulo r, from 0 to r - 1; 0 where r is not above 0. A number that is in that range already is not divided.
-// Kept: the test beside `rem_euclid`, since a division costs a telegram with a round loop more than all else (docs/PERFORMANCE.md).
+// Kept: the test beside `rem_euclid`, since without it a step with a round loop took 111.7 ns in place of 95.2 (docs/PERFORMANCE.md, `integers::floor_rem`).
 pub fn floor_rem(d: i64, r: i64) -> i64
     ensures { result ≡ floor_mod d r }
 {

@@ -35,7 +35,7 @@ pub fn error_number(e: Option<Error>) -> u32
 }
 
 // The result of a reading, 0 under an error, and what is wrong with it.
-// Kept: the pair, no `Result`, since the switches, the shown value and the analog code take the 0 under an error as any other result.
+// Kept: the pair, no `Result`, since the definition `judged_of` has a result beside each error, 0, which the switches, the shown value and the analog code take.
 #[derive(Clone, Copy)]
 pub struct Measured {
     pub result: i32,

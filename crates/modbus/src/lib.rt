@@ -10,7 +10,7 @@ ghost use Rattle.std.specs.Prelude.{false, ◌≡◌, ◌≤◌, length};
 ghost use Rattle.modbus.specs.Request.{start_in, value_in, is_misfit, crc_right, is_broken, is_mapped, is_unknown, wrong_amount, wrong_start, request_in, refusal_number, exception_code, asked_of};
 
 // The function that reads.
-// Kept: a number and no enum: a frame's second byte is one of 256, and is compared and sent as it is.
+// Kept: READ and WRITE are numbers and no enum, since `replies::exception_reply` takes any function number; an enum would ask more of callers.
 pub const READ: u8 = 3;
 
 // The function that writes.

@@ -1,5 +1,5 @@
 // Turns telegrams into bit planes: words of 4 bytes from standard input, the lowest byte first, to standard output. Run again it turns them back. Uses `storage`.
-// Kept: the same program as planes_back, since a crate has one standard input and one standard output to be held against.
+// Kept: the same program as planes_back, since its stdin and stdout are a test of their own, and a crate has one of each.
 #![tactic(auto)]
 
 fn main(rt: HostRuntime) {

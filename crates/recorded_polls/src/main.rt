@@ -1,5 +1,5 @@
 // poller over sessions recorded from the model. Uses `poll_terminal`.
-// Kept: the same program as poller, since a crate has one standard input and one standard output to be held against.
+// Kept: the same program as poller, since its stdin and stdout are a test of their own, and a crate has one of each.
 #![tactic(auto)]
 
 fn main(rt: HostRuntime) {

@@ -1,5 +1,5 @@
 // Runs and questions recorded from the model: lines from standard input, what they print to standard output. Uses `sheet`.
-// Kept: the same program as stored_runs, since a crate has one standard input and one standard output to be held against.
+// Kept: the same program as stored_runs, since its stdin and stdout are a test of their own, and a crate has one of each.
 #![tactic(auto)]
 
 fn main(rt: HostRuntime) {

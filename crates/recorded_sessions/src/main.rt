@@ -1,5 +1,5 @@
 // console on the sessions that were recorded from the model in tools/model: what it prints is compared with what the model answers. Uses `terminal`.
-// Kept: the same program as console, since a crate has one standard input and one standard output to be held against.
+// Kept: the same program as console, since its stdin and stdout are a test of their own, and a crate has one of each.
 #![tactic(auto)]
 
 fn main(rt: HostRuntime) {
