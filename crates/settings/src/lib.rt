@@ -12,7 +12,6 @@ use ssi::Layout;
 use switching::Preselection;
 
 // The ends and the format of the analog value.
-// Kept: the format is a number, as `analog::code` takes it.
 #[derive(Clone, Copy)]
 pub struct Span {
     // 0 is ±10 V, 1 is 0..20 mA, 2 is 4..20 mA.

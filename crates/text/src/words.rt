@@ -75,7 +75,7 @@ pub fn only(s: &[u8]) -> &[u8]
 }
 
 // Whether two texts are the same.
-// Kept: (d) `==` takes no slice beside an array, so that a word in quotes would need `.as_slice()` at each test.
+// Kept: a function, since `==` takes no slice beside an array, so that a word in quotes would need `.as_slice()` at each test.
 #[tactic(auto, unfolding(decimal::specs::Decimal::same_text))]
 pub fn same(a: &[u8], b: &[u8]) -> bool
     ensures { result ≡ same_text a.now b.now }
