@@ -5,6 +5,7 @@ ghost use Rattle.std.proofs.Common.{rules};
 ghost use Rattle.std.specs.Prelude.{⊤};
 ghost use Rattle.dispatcher.specs.Dispatch.{fresh_of};
 ghost use Rattle.poll_dialog.specs.Dialog.{after_line};
+ghost use Rattle.talk.specs.Ends.{Ran};
 
 use dispatcher::Dispatcher;
 use std::io::{Read, Write};
@@ -35,7 +36,9 @@ impl Dialog<128> for Polling {
     }
 }
 
-// Runs a dispatcher to the end of the input.
-pub fn run<R: Read, W: Write>(input: &mut R, output: &mut W) {
-    talk::run::<128, Polling, R, W>(input, output);
+// Runs a dispatcher to the end of the input; says what it is then.
+pub fn run<R: Read, W: Write>(input: &mut R, output: &mut W) -> Dispatcher
+    ensures { Ran after_line fresh_of (R.remaining input.old) (R.remaining input.new) result }
+{
+    talk::run::<128, Polling, R, W>(input, output)
 }

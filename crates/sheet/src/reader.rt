@@ -2,6 +2,7 @@
 ghost use Rattle.std.proofs.Common.{rules};
 ghost use Rattle.logrun.specs.Progress.{Ready};
 ghost use Rattle.sheet.specs.Sheet.{fresh_sheet, after_line};
+ghost use Rattle.talk.specs.Ends.{Ran};
 
 use crate::Sheet;
 use std::io::{Read, Write};
@@ -31,7 +32,9 @@ impl Dialog<12928> for Reading {
     }
 }
 
-// Answers all lines of the input.
-pub fn run<R: Read, W: Write>(input: &mut R, output: &mut W) {
-    talk::run::<12928, Reading, R, W>(input, output);
+// Answers all lines of the input; says what is kept then.
+pub fn run<R: Read, W: Write>(input: &mut R, output: &mut W) -> Sheet
+    ensures { Ran after_line fresh_sheet (R.remaining input.old) (R.remaining input.new) result }
+{
+    talk::run::<12928, Reading, R, W>(input, output)
 }

@@ -3,6 +3,7 @@
 
 ghost use Rattle.std.proofs.Common.{rules};
 ghost use Rattle.dialog.specs.Dialog.{Ready, fresh_console, after_line};
+ghost use Rattle.talk.specs.Ends.{Ran};
 
 use dialog::Console;
 use std::io::{Read, Write};
@@ -32,7 +33,9 @@ impl Dialog<128> for Panel {
     }
 }
 
-// Runs a dialog to the end of the input.
-pub fn run<R: Read, W: Write>(input: &mut R, output: &mut W) {
-    talk::run::<128, Panel, R, W>(input, output);
+// Runs a dialog to the end of the input; says what is kept then.
+pub fn run<R: Read, W: Write>(input: &mut R, output: &mut W) -> Console
+    ensures { Ran after_line fresh_console (R.remaining input.old) (R.remaining input.new) result }
+{
+    talk::run::<128, Panel, R, W>(input, output)
 }
