@@ -6,7 +6,7 @@ use Rattle.events.specs.declared.Event.{Event}
 use Rattle.events.specs.declared.Event.TheVariants.{Telegram, Levels, Tick}
 use Rattle.events.specs.declared.Pending.{Pending}
 use Rattle.events.specs.declared.Refusal.{Refusal}
-use Rattle.events.specs.declared.Refusal.TheVariants.{Reserved, OutOfOrder, LeftOver}
+use Rattle.events.specs.declared.Refusal.TheVariants.{Reserved, OutOfOrder, LeftOver, Other}
 use Rattle.events.specs.declared.AfterWord.{AfterWord}
 use Rattle.events.specs.Words.{kind_of, ms_of, levels_of, half_of, joined, reserved_set}
 
@@ -19,6 +19,21 @@ abbrev pub refusal_number : Refusal → ℕ
 refusal_number Reserved = 14
 refusal_number OutOfOrder = 15
 refusal_number LeftOver = 16
+refusal_number (Other n) = n
+
+-- 0 where there is none
+abbrev pub number_told : Option Refusal → ℕ
+number_told None = 0
+number_told (Some refusal) = refusal_number refusal
+
+-- the refusal of a number: each number has one, 0 none
+unfoldable pub refusal_of : ℕ → Option Refusal
+refusal_of n =
+    cond (eqb n 0) None
+    (cond (eqb n 14) (Some Reserved)
+    (cond (eqb n 15) (Some OutOfOrder)
+    (cond (eqb n 16) (Some LeftOver)
+    (Some (Other n)))))
 
 -- what a word gives
 abbrev pub Taken : Type 0

@@ -7,7 +7,7 @@ mod parts;
 ghost use Rattle.std.specs.Prelude.{◌≡◌};
 ghost use Rattle.events.specs.Words.{word_at};
 ghost use Rattle.events.specs.Bytes.{least_first};
-ghost use Rattle.events.specs.Log.{fresh_pending, refusal_number, kept, refused, happened, ordered_of, taken_of, end_of};
+ghost use Rattle.events.specs.Log.{fresh_pending, refusal_number, number_told, refusal_of, kept, refused, happened, ordered_of, taken_of, end_of};
 
 use parts::Kind;
 
@@ -30,7 +30,7 @@ pub struct Pending {
 }
 
 // Why a log is refused, which ends it.
-#[derive(Clone, Copy)]
+#[derive(Clone, Copy, Debug, PartialEq, Eq)]
 pub enum Refusal {
     // A reserved bit is set.
     Reserved,
@@ -38,6 +38,8 @@ pub enum Refusal {
     OutOfOrder,
     // Bytes are left over behind the last whole word.
     LeftOver,
+    // By another number. No log is refused so; a run that a caller puts together may have ended by any.
+    Other(u8),
 }
 
 impl Refusal {
@@ -49,7 +51,23 @@ impl Refusal {
             Refusal::Reserved => 14,
             Refusal::OutOfOrder => 15,
             Refusal::LeftOver => 16,
+            Refusal::Other(number) => number,
         }
+    }
+}
+
+// The refusal of a number: each number has one, 0 none.
+#[tactic(auto, unfolding(crate::specs::Log::refusal_of))]
+pub fn refusal_of(number: u8) -> Option<Refusal>
+    ensures is { result ≡ refusal_of number }
+    ensures back { number_told result ≡ number }
+{
+    match number {
+        0 => None,
+        14 => Some(Refusal::Reserved),
+        15 => Some(Refusal::OutOfOrder),
+        16 => Some(Refusal::LeftOver),
+        _ => Some(Refusal::Other(number)),
     }
 }
 

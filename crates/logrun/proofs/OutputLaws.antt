@@ -1,12 +1,12 @@
 -- What the functions put for a whole input, in whatever pieces it comes, is what panelrun means: `output-in-pieces`.
 use Rattle.std.specs.Prelude.{◌≡◌, refl, Option, Some, None, is_none, Bool, true, false, List, [], ◌∷◌, ◌++◌, ℕ, ◌%◌, ◌<◌, eqb, length, not, Ok, Err, is_some}
-use Rattle.std.proofs.Common.{sym, ap, ◌∙◌, append_assoc, append-nil, arith, take_at, drop_at, take_all}
+use Rattle.std.proofs.Common.{inl, inr, sym, ap, ◌∙◌, append_assoc, append-nil, arith, take_at, drop_at, take_all}
 use Rattle.events.specs.declared.Pending.{Pending}
 use Rattle.events.specs.declared.Refusal.{Refusal}
-use Rattle.events.specs.declared.Refusal.TheVariants.{Reserved, OutOfOrder, LeftOver}
 use Rattle.events.specs.Bytes.{words_in, left_over, log_of_bytes}
 use Rattle.events.specs.Log.{refusal_number, Taken, taken_of, end_of, end_number, Log, before, log_from}
 use Rattle.events.proofs.LogLaws.{log-word, log-end, log-start}
+use Rattle.events.proofs.WordLaws.{Reason, word-reason}
 use Rattle.lines.specs.Lines.{header_line, event_line, next_count, end_line}
 use Rattle.parameters.specs.declared.Refusal.{Refusal as LoadRefusal}
 use Rattle.panel.specs.declared.Loaded.{Loaded}
@@ -24,9 +24,11 @@ use Rattle.logrun.proofs.PieceLaws.{pieces-fed, pieces-text, left_both, piece-go
 
 -- a word's refusal is not 0
 refused-some : (p : Pending) (w : ℕ) (n : Refusal) → (taken_of p w).taken ≡ Err n → eqb (refusal_number n) 0 ≡ false
-refused-some p w Reserved e = refl
-refused-some p w OutOfOrder e = refl
-refused-some p w LeftOver e = refl
+refused-some p w n e = by (word-reason p w n e)
+  where
+    by : Reason p w n → eqb (refusal_number n) 0 ≡ false
+    by (inl (h, r)) = rw h
+    by (inr (h, r)) = rw h
 
 -- what is printed from a place of the log on
 abbrev pub rest_text : Progress → List ℕ → ℕ → List ℕ

@@ -9,7 +9,7 @@ ghost use Rattle.state.specs.State.{fresh_of, set_levels, set_basis, set_reading
 ghost use Rattle.driverecord.specs.DriveRecord.{present_of};
 ghost use Rattle.driverecord.specs.Numbers.{Number, Numbers};
 ghost use Rattle.state.specs.Extremes.{widened_of};
-ghost use Rattle.state.specs.Refusal.{refusal_number, note_number};
+ghost use Rattle.state.specs.Refusal.{refusal_number, note_number, note_of};
 
 use driverecord::DriveRecord;
 use reading::{Basis, Halves, Reading};
@@ -51,7 +51,7 @@ pub struct State {
 }
 
 // Why an event, a command or a burst is refused.
-#[derive(Clone, Copy)]
+#[derive(Clone, Copy, Debug, PartialEq, Eq)]
 pub enum Refusal {
     // Levels above 7.
     LevelsAbove,
@@ -63,6 +63,24 @@ pub enum Refusal {
     NothingToTake,
     // A burst of more than 1,024 telegrams.
     BurstTooLong,
+    // By another number. The engine gives none of these; an answer that a caller puts together may have any.
+    Other(u8),
+}
+
+impl Refusal {
+    // Its number.
+    pub fn number(self) -> u8
+        ensures { result ≡ refusal_number self }
+    {
+        match self {
+            Refusal::LevelsAbove => 10,
+            Refusal::BitAbove => 11,
+            Refusal::OffsetOutOfRange => 12,
+            Refusal::NothingToTake => 13,
+            Refusal::BurstTooLong => 21,
+            Refusal::Other(number) => number,
+        }
+    }
 }
 
 // What an event or a command leaves beside the table.
@@ -105,26 +123,30 @@ pub fn fresh(table: [i32; 104]) -> State
     }
 }
 
-// The number of a refusal.
-fn refusal_number(r: Refusal) -> u8
-    ensures { result ≡ refusal_number r }
-{
-    match r {
-        Refusal::LevelsAbove => 10,
-        Refusal::BitAbove => 11,
-        Refusal::OffsetOutOfRange => 12,
-        Refusal::NothingToTake => 13,
-        Refusal::BurstTooLong => 21,
-    }
-}
-
 // The number of a note, 0 for none.
 pub fn note_number(note: Option<Refusal>) -> u8
     ensures { result ≡ note_number note }
 {
     match note {
         None => 0,
-        Some(r) => refusal_number(r),
+        Some(r) => r.number(),
+    }
+}
+
+// The note of a number: each number has one, 0 none.
+#[tactic(auto, unfolding(crate::specs::Refusal::note_of))]
+pub fn note_of(number: u8) -> Option<Refusal>
+    ensures is { result ≡ note_of number }
+    ensures back { note_number result ≡ number }
+{
+    match number {
+        0 => None,
+        10 => Some(Refusal::LevelsAbove),
+        11 => Some(Refusal::BitAbove),
+        12 => Some(Refusal::OffsetOutOfRange),
+        13 => Some(Refusal::NothingToTake),
+        21 => Some(Refusal::BurstTooLong),
+        _ => Some(Refusal::Other(number)),
     }
 }
 
