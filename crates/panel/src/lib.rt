@@ -25,6 +25,10 @@ use ssi::Diagnosis;
 use state::{Live, Outcome, Refusal, State};
 use switching::Switch;
 
+// The numbers of an answer's note and marks, so that who calls this crate needs none below it.
+pub use reading::{halves_number, marks_in};
+pub use state::{note_number, note_of};
+
 // The answer to an event.
 #[derive(Clone, Copy)]
 pub struct Answer {

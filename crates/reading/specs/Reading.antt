@@ -87,6 +87,9 @@ in_linearization h = eqb (h / 2 % 2) 1
 abbrev pub in_analog : ℕ → Bool
 in_analog h = eqb (h / 4 % 2) 1
 
+abbrev pub marks_in : ℕ → Halves
+marks_in h = halves (in_scaling h) (in_linearization h) (in_analog h)
+
 -- "Scaling, linearization and analog value each pass on their own"; "All three are no under an error"
 unfoldable pub marks_of : Measurement → Bool → Halves
 marks_of x analog = cond (eqb (error_number x.measured.error) 0) (halves x.scaling x.linearization analog) no_halves

@@ -8,7 +8,7 @@ ghost use Rattle.measurement.specs.Sound as measurement;
 ghost use Rattle.ssi.specs.Sound.{Sound};
 ghost use Rattle.ssi.specs.Telegram.{modulus};
 ghost use Rattle.reading.specs.Follow.{count_after, held_of, basis_after};
-ghost use Rattle.reading.specs.Reading.{accepts_of, code_at, coded_at, drive_at, no_halves, mark, halves_number, marks_of, marked_of};
+ghost use Rattle.reading.specs.Reading.{accepts_of, code_at, coded_at, drive_at, no_halves, mark, halves_number, marks_in, marks_of, marked_of};
 ghost use Rattle.reading.specs.ReadingWay.{basis_by, marked_by};
 
 use analog::{Coded, Drive};
@@ -42,7 +42,7 @@ pub struct Reading {
 }
 
 // Where a half decided.
-#[derive(Clone, Copy)]
+#[derive(Clone, Copy, Debug, PartialEq, Eq)]
 pub struct Halves {
     pub scaling: bool,
     pub linearization: bool,
@@ -173,6 +173,17 @@ pub fn halves_number(h: Halves) -> u8
     ensures { result ≡ halves_number h }
 {
     mark(h.scaling, 1) + mark(h.linearization, 2) + mark(h.analog, 4)
+}
+
+// The marks that a number gives; what it has above 7 says nothing.
+pub fn marks_in(number: u8) -> Halves
+    ensures { result ≡ marks_in number }
+{
+    Halves {
+        scaling: number % 2 == 1,
+        linearization: number / 2 % 2 == 1,
+        analog: number / 4 % 2 == 1,
+    }
 }
 
 // The marks of a reading, with that of its code: none under an error.
