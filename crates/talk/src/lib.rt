@@ -5,7 +5,7 @@
 ghost use Rattle.std.specs.Prelude.{◌≡◌, ◌^◌, ◌<◌, ◌≤◌, List, ℕ, [], length, IfSome, IfNone};
 ghost use Rattle.std.specs.Io.KnownBytes.{Consumes};
 ghost use Rattle.script.specs.Collector.{most, collected};
-ghost use Rattle.script.specs.Talk.{answered_of, answered_at, talked_all};
+ghost use Rattle.script.specs.Talk.{answered_of, talked_all};
 ghost use Rattle.talk.specs.Ends.{Heard, finished, Ran};
 
 use script::collector;
@@ -69,24 +69,7 @@ fn answer<const ROOM: usize, D: Dialog<ROOM>, W: Write>(
     next
 }
 
-// What is kept behind a byte: a line that it ends is answered.
-fn take<const ROOM: usize, D: Dialog<ROOM>, W: Write>(
-    s: D::State,
-    bytes: &[u8],
-    x: Extent,
-    output: &mut W,
-) -> D::State
-    requires { D.Ready s × (most ≤ length bytes.now) }
-    ensures is { result ≡ answered_at D.after s (collected bytes.now x) }
-    ensures ready { D.Ready result }
-{
-    if x.ended {
-        return answer::<ROOM, D, W>(s, bytes, x, output);
-    }
-    s
-}
-
-// The bytes of a piece of the input.
+// The bytes of a piece of the input. The state is left alone but where a line ends, since it is large.
 fn take_all<const ROOM: usize, D: Dialog<ROOM>, W: Write>(
     t: Talk<D::State>,
     bytes: &[u8],
@@ -102,7 +85,9 @@ fn take_all<const ROOM: usize, D: Dialog<ROOM>, W: Write>(
     let mut s = t.state;
     for b in bytes {
         x = collector::push(&mut held, x, *b);
-        s = take::<ROOM, D, W>(s, &held, x, output);
+        if x.ended {
+            s = answer::<ROOM, D, W>(s, &held, x, output);
+        }
     }
     Talk {
         state: s,
