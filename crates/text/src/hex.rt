@@ -39,8 +39,12 @@ pub fn is_hex(s: &[u8], least: usize, most: usize) -> bool
 pub fn are_hex(s: &[u8], count: usize, least: usize, most: usize) -> bool
     ensures { result ≡ are_hex count least most (words_of s.now) }
 {
-    let words = Words { text: s };
-    words.count() <= count && Words { text: s }.all(|w| is_hex(w, least, most))
+    for (n, w) in (Words { text: s }).enumerate() {
+        if n == count || !is_hex(w, least, most) {
+            return false;
+        }
+    }
+    true
 }
 
 // The number that hex digits stand for.

@@ -20,11 +20,12 @@ impl<'a> Iterator for Words<'a> {
     ghost remaining = { item_count (λ s. words_of s.text.now) };
 
     fn next(&mut self) -> Option<&'a [u8]> {
-        let w = word(self.text);
+        let t = unspaced(self.text);
+        let (w, behind) = t.split_at(word_length(t));
         if w.is_empty() {
             return None;
         }
-        self.text = rest(self.text);
+        self.text = behind;
         Some(w)
     }
 }

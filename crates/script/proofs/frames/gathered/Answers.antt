@@ -1,13 +1,10 @@
 -- `script::frames::gathered` meets its contract: each turn stores the number that one word is, and the words behind it are left.
-use mathlib.Core.Path.{◌≡◌, refl}
+use mathlib.Core.Path.{refl}
 use native.Mathlib.Omega.{arith}
-use lib.ListN.{length}
 use Rattle.std.proofs.Common.{inl}
-use Rattle.std.proofs.lemmas.Iterator.Consumers.{YieldsList-from_first, count_from_yields_List}
-use Rattle.text.specs.Words.{words_of}
 use Rattle.text.specs.WordLaws.{words-few}
 use Rattle.script.specs.Commands.{is_frame}
-use Rattle.script.proofs.GatherLaws.{left-all, left-hex, left-room, left-next, left-count}
+use Rattle.script.proofs.GatherLaws.{left-all, left-hex, left-room, left-next}
 use Rattle.script.proofs.FrameLaws.{bytes_packed}
 use Rattle.script.proofs.frames.gathered.Goals as goal
 
@@ -19,6 +16,7 @@ loop-n-init c =
       (tt, tt, rw (into, made.source, made.count) (inl (omega (arith, words-few c.args.s.now)))),
       tt,
       rw (into, made.source, made.count) (left-all _ _ _ _ c.requires),
+      rw (into, made.count) refl,
     )
 
 pub byte-requires : goal.byte-requires
@@ -34,14 +32,10 @@ loop-n-preserved c =
       (tt, tt, rw s.2 (inl (omega (arith, l.room)))),
       tt,
       rw (c.byte.ensures, s.1, s.2) l,
+      rw (s.1, s.2) refl,
     )
-
-pub count-requires-clause-fits : goal.count-requires-clause-fits
-count-requires-clause-fits c = inl (omega (arith, words-few c.args.s.now))
 
 pub returns : goal.returns
 returns c =
-    let ws = words_of c.args.s.now in
-    let n : c.count.result ≡ length ws = count_from_yields_List _ _ c.count.ensures.ran (YieldsList-from_first (λ x. x.now) (λ s. words_of s.text.now) {s = record { text = c.args.s }} ws refl) in
-    let l = rw c.in-None.ensures.steps.0.0 at c.loop-n.invariant.2 in
-    rw (n, ← left-count _ _ _ _ _ _ l) (bytes_packed _ _ _ l)
+    let i = c.loop-n.invariant in
+    rw i.3 (bytes_packed _ _ _ (rw c.in-None.ensures.steps.0.0 at i.2))

@@ -1,4 +1,5 @@
--- `script::frames::gathered` meets its contract. The invariant is `Left`: what is stored so far and the words that are left.
+-- `script::frames::gathered` meets its contract. The invariant is `Left`, what is stored so far and the words that are left, and that the length is the number stored.
+use mathlib.Core.Path.{◌≡◌}
 use Rattle.text.specs.Words.{words_of}
 use Rattle.script.specs.Commands.{most_bytes}
 use Rattle.script.proofs.GatherLaws.{Left}
@@ -9,3 +10,4 @@ invariant-loop-n l =
     (goal.iterator-loop-n).can_next l.n-iterator
     × (goal.iterator-loop-n).is_finite l.n-iterator
     × Left most_bytes 2 2 (words_of l.s) l.n-iterator.count l.bytes (words_of l.n-iterator.iter.text.now)
+    × (l.length ≡ l.n-iterator.count)
