@@ -62,12 +62,12 @@ read_back_lem false false true = (refl, (refl, refl))
 read_back_lem false false false = (refl, (refl, refl))
 
 marks-are : (t : List ℤ) (b : Basis) → (measured_at t b).error ≡ None →
-    ((halves_of t b).scaling ≡ scaling_half (scaling_of t) b.start) × (((halves_of t b).linearization ≡ line_half (scaling_of t) (points_of t) b.start) ×
-    ((halves_of t b).analog ≡ code_half (span_of t).format (span_of t).start (span_of t).end (measured_at t b).result))
+    (in_scaling (halves_of t b).number ≡ scaling_half (scaling_of t) b.start) × ((in_linearization (halves_of t b).number ≡ line_half (scaling_of t) (points_of t) b.start) ×
+    (in_analog (halves_of t b).number ≡ code_half (span_of t).format (span_of t).start (span_of t).end (measured_at t b).result))
 unfolding halves_of marks_of measurement_at measurement_of measured_at coded_at coded_of
-marks-are t b e = rw e (refl, (refl, refl))
+marks-are t b e = rw e (read_back_lem (scaling_half (scaling_of t) b.start) (line_half (scaling_of t) (points_of t) b.start) _)
 
-measured-same : (t : List ℤ) (b : Basis) → (measured_at t b).error ≡ None → (halves_of t b).scaling ≡ false → (halves_of t b).linearization ≡ false →
+measured-same : (t : List ℤ) (b : Basis) → (measured_at t b).error ≡ None → in_scaling (halves_of t b).number ≡ false → in_linearization (halves_of t b).number ≡ false →
     measured_up t b ≡ measured_at t b
 unfolding measured_up measured_at measured_of
 measured-same t b e x y =
@@ -101,12 +101,12 @@ unfolding scaling_half scaled_by
 unscaled s p e =
     rw (e, zero-distance p s.round_loop, zero-*ℤ (pos s.factor), ← zero-*ℤ (pos s.divider)) (multiple-no-half (pos 0) (pos s.divider))
 
-marks-unscaled : (x : Measurement) (analog : Bool) → x.scaling ≡ false → (marks_of x analog).scaling ≡ false
+marks-unscaled : (x : Measurement) (analog : Bool) → x.scaling ≡ false → in_scaling (marks_of x analog).number ≡ false
 unfolding marks_of
 marks-unscaled x analog e =
-    by-test (eqb (error_number x.measured.error) 0) _ _ (λ (h : Halves). h.scaling ≡ false) (λ _. e) (λ _. refl)
+    by-test (eqb (error_number x.measured.error) 0) _ _ (λ (h : Halves). in_scaling h.number ≡ false) (λ _. (read_back_lem x.scaling x.linearization analog).0 ∙ e) (λ _. refl)
 
-pub reset-unscaled : (s : State) → Good s → (halves_in (reset_of s)).scaling ≡ false
+pub reset-unscaled : (s : State) → Good s → in_scaling (halves_in (reset_of s)).number ≡ false
 unfolding reset_of reread_of halves_of measurement_at measurement_of scaling_of
 reset-unscaled s g =
     let p = s.live.basis.start in

@@ -26,7 +26,7 @@ use state::{Live, Outcome, Refusal, State};
 use switching::Switch;
 
 // The numbers of an answer's note and marks, so that who calls this crate needs none below it.
-pub use reading::{halves_number, marks_in};
+pub use reading::halves_number;
 pub use state::{note_number, note_of};
 
 // The answer to an event.

@@ -63,19 +63,18 @@ reading_of t b =
 
 -- ---- K7, where a half decided
 
--- the three marks, and none of them
-abbrev pub halves : Bool → Bool → Bool → Halves
-halves scaling linearization analog = record { scaling = scaling; linearization = linearization; analog = analog }
-
-abbrev pub no_halves : Halves
-no_halves = halves false false false
-
--- as one number: 1 for scaling, 2 for linearization, 4 for the analog value, added
+-- the three marks as one number: 1 for scaling, 2 for linearization, 4 for the analog value, added; and none of them
 abbrev pub mark : Bool → ℕ → ℕ
 mark half worth = cond half worth 0
 
+abbrev pub halves : Bool → Bool → Bool → Halves
+halves scaling linearization analog = record { number = mark scaling 1 + mark linearization 2 + mark analog 4 }
+
+abbrev pub no_halves : Halves
+no_halves = record { number = 0 }
+
 abbrev pub halves_number : Halves → ℕ
-halves_number h = mark h.scaling 1 + mark h.linearization 2 + mark h.analog 4
+halves_number h = h.number
 
 -- each of them again
 abbrev pub in_scaling : ℕ → Bool
@@ -86,9 +85,6 @@ in_linearization h = eqb (h / 2 % 2) 1
 
 abbrev pub in_analog : ℕ → Bool
 in_analog h = eqb (h / 4 % 2) 1
-
-abbrev pub marks_in : ℕ → Halves
-marks_in h = halves (in_scaling h) (in_linearization h) (in_analog h)
 
 -- "Scaling, linearization and analog value each pass on their own"; "All three are no under an error"
 unfoldable pub marks_of : Measurement → Bool → Halves

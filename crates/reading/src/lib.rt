@@ -8,7 +8,7 @@ ghost use Rattle.measurement.specs.Sound as measurement;
 ghost use Rattle.ssi.specs.Sound.{Sound};
 ghost use Rattle.ssi.specs.Telegram.{modulus};
 ghost use Rattle.reading.specs.Follow.{count_after, held_of, basis_after};
-ghost use Rattle.reading.specs.Reading.{accepts_of, code_at, coded_at, drive_at, no_halves, mark, halves_number, marks_in, marks_of, marked_of};
+ghost use Rattle.reading.specs.Reading.{accepts_of, code_at, coded_at, drive_at, halves, no_halves, mark, halves_number, in_scaling, in_linearization, in_analog, marks_of, marked_of};
 ghost use Rattle.reading.specs.ReadingWay.{basis_by, marked_by};
 
 use analog::{Coded, Drive};
@@ -42,12 +42,34 @@ pub struct Reading {
 }
 
 // Where a half decided.
+// Kept: one byte, since three bools are copied slowly on the way of a telegram, and hold fewer values.
 #[derive(Clone, Copy, Debug, PartialEq, Eq)]
 pub struct Halves {
-    pub scaling: bool,
-    pub linearization: bool,
-    // In the code, before it is held.
-    pub analog: bool,
+    // 1 for scaling, 2 for linearization, 4 for the code before it is held, added.
+    pub number: u8,
+}
+
+impl Halves {
+    // Whether one decided in scaling.
+    pub fn scaling(self) -> bool
+        ensures { result ≡ in_scaling self.number }
+    {
+        self.number % 2 == 1
+    }
+
+    // Whether one decided in linearization.
+    pub fn linearization(self) -> bool
+        ensures { result ≡ in_linearization self.number }
+    {
+        self.number / 2 % 2 == 1
+    }
+
+    // Whether one decided in the analog code.
+    pub fn analog(self) -> bool
+        ensures { result ≡ in_analog self.number }
+    {
+        self.number / 4 % 2 == 1
+    }
 }
 
 // A reading with its marks.
@@ -151,11 +173,7 @@ fn driven(a: Span, m: Measured, code: i32) -> Drive
 pub fn no_halves() -> Halves
     ensures { result ≡ no_halves }
 {
-    Halves {
-        scaling: false,
-        linearization: false,
-        analog: false,
-    }
+    Halves { number: 0 }
 }
 
 // A mark's worth, or 0.
@@ -168,22 +186,19 @@ fn mark(half: bool, worth: u8) -> u8
     0
 }
 
-// The marks as one number: 1 for scaling, 2 for linearization, 4 for the analog code, added.
+// The three marks.
+fn halves(scaling: bool, linearization: bool, analog: bool) -> Halves
+    ensures { result ≡ halves scaling linearization analog }
+{
+    let number = mark(scaling, 1) + mark(linearization, 2) + mark(analog, 4);
+    Halves { number }
+}
+
+// The marks as one number.
 pub fn halves_number(h: Halves) -> u8
     ensures { result ≡ halves_number h }
 {
-    mark(h.scaling, 1) + mark(h.linearization, 2) + mark(h.analog, 4)
-}
-
-// The marks that a number gives; what it has above 7 says nothing.
-pub fn marks_in(number: u8) -> Halves
-    ensures { result ≡ marks_in number }
-{
-    Halves {
-        scaling: number % 2 == 1,
-        linearization: number / 2 % 2 == 1,
-        analog: number / 4 % 2 == 1,
-    }
+    h.number
 }
 
 // The marks of a reading, with that of its code: none under an error.
@@ -191,11 +206,7 @@ fn marks(x: Measurement, analog: bool) -> Halves
     ensures { result ≡ marks_of x analog }
 {
     if x.measured.error.is_none() {
-        return Halves {
-            scaling: x.scaling,
-            linearization: x.linearization,
-            analog,
-        };
+        return halves(x.scaling, x.linearization, analog);
     }
     no_halves()
 }
@@ -209,7 +220,7 @@ pub fn read_by(s: Scaling, points: &[i32], a: Span, b: Basis) -> Marked
     let m = x.measured;
     let c = code_of(a, m);
     let drive = driven(a, m, c.code);
-    let halves = marks(x, c.half);
+    let found = marks(x, c.half);
     let error = m.error;
     let reading = Reading {
         result: m.result,
@@ -217,7 +228,10 @@ pub fn read_by(s: Scaling, points: &[i32], a: Span, b: Basis) -> Marked
         code: c.code,
         drive,
     };
-    Marked { reading, halves }
+    Marked {
+        reading,
+        halves: found,
+    }
 }
 
 // The same under a table.
