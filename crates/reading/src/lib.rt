@@ -186,12 +186,11 @@ fn mark(half: bool, worth: u8) -> u8
     0
 }
 
-// The three marks.
-fn halves(scaling: bool, linearization: bool, analog: bool) -> Halves
-    ensures { result ≡ halves scaling linearization analog }
+// The three marks in one number.
+fn added(scaling: bool, linearization: bool, analog: bool) -> u8
+    ensures { result ≡ halves_number (halves scaling linearization analog) }
 {
-    let number = mark(scaling, 1) + mark(linearization, 2) + mark(analog, 4);
-    Halves { number }
+    mark(scaling, 1) + mark(linearization, 2) + mark(analog, 4)
 }
 
 // The marks as one number.
@@ -206,7 +205,9 @@ fn marks(x: Measurement, analog: bool) -> Halves
     ensures { result ≡ marks_of x analog }
 {
     if x.measured.error.is_none() {
-        return halves(x.scaling, x.linearization, analog);
+        return Halves {
+            number: added(x.scaling, x.linearization, analog),
+        };
     }
     no_halves()
 }
@@ -220,7 +221,7 @@ pub fn read_by(s: Scaling, points: &[i32], a: Span, b: Basis) -> Marked
     let m = x.measured;
     let c = code_of(a, m);
     let drive = driven(a, m, c.code);
-    let found = marks(x, c.half);
+    let halves = marks(x, c.half);
     let error = m.error;
     let reading = Reading {
         result: m.result,
@@ -228,10 +229,7 @@ pub fn read_by(s: Scaling, points: &[i32], a: Span, b: Basis) -> Marked
         code: c.code,
         drive,
     };
-    Marked {
-        reading,
-        halves: found,
-    }
+    Marked { reading, halves }
 }
 
 // The same under a table.

@@ -5,7 +5,7 @@ use Rattle.reading.proofs.marks.Goals as goal
 
 pub returns-then-is_none : goal.returns-then-is_none
 unfolding marks_of
-returns-then-is_none c = rw (no-error-numbered c.args.x.measured.error, c.is_none.ensures, c.if-is_none.true, c.halves.ensures)
+returns-then-is_none c = rw (no-error-numbered c.args.x.measured.error, c.is_none.ensures, c.if-is_none.true, c.added.ensures)
 
 pub returns : goal.returns
 unfolding marks_of

@@ -1,9 +1,9 @@
--- `reading::halves` meets its contract: the worth of each mark, added.
+-- `reading::added` meets its contract: the worth of each mark, added.
 use mathlib.Core.Bool.{Bool, true, false}
 use Prim.Native.Nat.{ℕ, ◌≤◌}
 use native.Mathlib.Omega.{arith}
 use Rattle.reading.specs.Reading.{mark}
-use Rattle.reading.proofs.halves.Goals as goal
+use Rattle.reading.proofs.added.Goals as goal
 
 -- a mark is at most its worth
 most : (half : Bool) (worth : ℕ) → mark half worth ≤ worth
