@@ -6,7 +6,7 @@ use Rattle.events.specs.declared.Pending.{Pending}
 use Rattle.events.specs.declared.Refusal.TheVariants.{Reserved, OutOfOrder}
 use Rattle.events.specs.declared.AfterWord.{AfterWord}
 use Rattle.events.specs.Words.{kind_of, ms_of, levels_of, half_of, joined, reserved_set}
-use Rattle.events.specs.Log.{fresh_pending, happened, kept, refused, waiting, upper_of, out_of_order, Taken, accepted_of, taken_of, before, log_from, log_of}
+use Rattle.events.specs.Log.{fresh_pending, happened, kept, refused, out_of_order, Taken, accepted_of, taken_of, before, log_from, log_of}
 use Rattle.events.specs.Written.{Carried, AllCarried}
 
 abbrev CarriedTaken : Taken → Type 0
@@ -15,7 +15,7 @@ CarriedTaken (Ok None) = Unit
 CarriedTaken (Err n) = Unit
 
 abbrev CarriedStep : AfterWord → Type 0
-CarriedStep s = (upper_of s.pending < 2 ^ 16) × CarriedTaken s.taken
+CarriedStep s = (s.pending.upper < 2 ^ 16) × CarriedTaken s.taken
 
 module _ (upper w : ℕ) (small : upper < 2 ^ 16) where
   carried-by : (r o k0 k1 k2 : Bool)
@@ -31,9 +31,9 @@ module _ (upper w : ℕ) (small : upper < 2 ^ 16) where
   carried-by false false false false true = (omega arith, tt)
   carried-by false false false false false = (omega arith, omega arith)
 
-word-carried : (p : Pending) (w : ℕ) → upper_of p < 2 ^ 16 → CarriedStep (taken_of p w)
+word-carried : (p : Pending) (w : ℕ) → p.upper < 2 ^ 16 → CarriedStep (taken_of p w)
 unfolding taken_of accepted_of
-word-carried p w h = carried-by (upper_of p) w h (reserved_set w) (out_of_order (waiting p) w) (eqb (kind_of w) 0) (eqb (kind_of w) 1) (eqb (kind_of w) 2)
+word-carried p w h = carried-by p.upper w h (reserved_set w) (out_of_order p.waiting w) (eqb (kind_of w) 0) (eqb (kind_of w) 1) (eqb (kind_of w) 2)
 
 before-carried : (ws : List ℕ) (left : ℕ) (s : AfterWord) → CarriedTaken s.taken → AllCarried (log_from s.pending ws left).events
     → AllCarried (before s.taken (log_from s.pending ws left)).events
@@ -44,7 +44,7 @@ before-carried ws left s h rest = by s.taken h
     by (Ok None) k = rest
     by (Err n) k = tt
 
-pub carried_from : (p : Pending) (ws : List ℕ) (left : ℕ) → upper_of p < 2 ^ 16 → AllCarried (log_from p ws left).events
+pub carried_from : (p : Pending) (ws : List ℕ) (left : ℕ) → p.upper < 2 ^ 16 → AllCarried (log_from p ws left).events
 unfolding log_from
 carried_from p [] left h = tt
 carried_from p (w ∷ ws) left h =

@@ -3,6 +3,7 @@ pub mod Mask
 pub mod Cases
 pub mod WordLaws
 pub mod LogLaws
+pub mod HalfLaws
 pub mod WrittenLaws
 pub mod CarriedLaws
 pub mod ByteLaws

@@ -11,7 +11,7 @@ use Rattle.events.specs.declared.AfterWord.{AfterWord}
 use Rattle.events.specs.declared.Refusal.{Refusal}
 use Rattle.events.specs.declared.Refusal.TheVariants.{Reserved, OutOfOrder, LeftOver}
 use Rattle.events.specs.Words.{bits_of, kind_of, ms_of, levels_of, half_of, joined, reserved_of, reserved_set}
-use Rattle.events.specs.Log.{fresh_pending, happened, kept, refused, refusal_number, waiting, upper_of, end_number, out_of_order, accepted_of, taken_of, end_of, before, log_from, log_of}
+use Rattle.events.specs.Log.{fresh_pending, happened, kept, refused, refusal_number, end_number, out_of_order, accepted_of, taken_of, end_of, before, log_from, log_of}
 use Rattle.events.proofs.LogLaws.{behind}
 use Rattle.events.proofs.WordLaws.{tick-word, levels-word, upper-word, lower_word}
 use Rattle.events.specs.Written.{word_with, words_of, written, Carried, AllCarried, AllWords}
@@ -71,10 +71,10 @@ read_back_lem es h = read-from es h
 -- ---- written back: what a word of 32 bits is, by what it gives
 data Shape : Pending → ℕ → AfterWord → Type 0 where
   was-refused : {p : Pending} {w : ℕ} (n : Refusal) → 0 < refusal_number n → Shape p w (refused n)
-  was-tick : {p : Pending} {w : ℕ} → waiting p ≡ false → w ≡ word_with 0 (ms_of w) → Shape p w (happened (Tick (ms_of w)))
-  was-levels : {p : Pending} {w : ℕ} → waiting p ≡ false → w ≡ word_with 1 (levels_of w) → Shape p w (happened (Levels (levels_of w)))
-  was_upper : {p : Pending} {w : ℕ} → waiting p ≡ false → w ≡ word_with 2 (half_of w) → Shape p w (kept (half_of w))
-  was_lower : {p : Pending} {w : ℕ} → waiting p ≡ true → w ≡ word_with 3 (half_of w) → Shape p w (happened (Telegram (joined (upper_of p) (half_of w))))
+  was-tick : {p : Pending} {w : ℕ} → p.waiting ≡ false → w ≡ word_with 0 (ms_of w) → Shape p w (happened (Tick (ms_of w)))
+  was-levels : {p : Pending} {w : ℕ} → p.waiting ≡ false → w ≡ word_with 1 (levels_of w) → Shape p w (happened (Levels (levels_of w)))
+  was_upper : {p : Pending} {w : ℕ} → p.waiting ≡ false → w ≡ word_with 2 (half_of w) → Shape p w (kept (half_of w))
+  was_lower : {p : Pending} {w : ℕ} → p.waiting ≡ true → w ≡ word_with 3 (half_of w) → Shape p w (happened (Telegram (joined p.upper (half_of w))))
 
 reserved-zero : (w : ℕ) → reserved_set w ≡ false → reserved_of w ≡ 0
 unfolding reserved_set
@@ -98,29 +98,29 @@ module _ (p : Pending) (w : ℕ) (small : w < 2 ^ 32) where
   reserved-at : (k : ℕ) → kind_of w ≡ k → reserved_set w ≡ false → cond (eqb k 1) (bits_of 29 3 w) (bits_of 29 16 w) ≡ 0
   reserved-at k e r = ap (λ (x : ℕ). cond (eqb x 1) (bits_of 29 3 w) (bits_of 29 16 w)) (sym e) ∙ reserved-zero w r
 
-  order-at : (k : ℕ) → kind_of w ≡ k → out_of_order (waiting p) w ≡ false → cond (waiting p) (not (eqb k 3)) (eqb k 3) ≡ false
-  order-at k e o = ap (λ (x : ℕ). cond (waiting p) (not (eqb x 3)) (eqb x 3)) (sym e) ∙ o
+  order-at : (k : ℕ) → kind_of w ≡ k → out_of_order p.waiting w ≡ false → cond p.waiting (not (eqb k 3)) (eqb k 3) ≡ false
+  order-at k e o = ap (λ (x : ℕ). cond p.waiting (not (eqb x 3)) (eqb x 3)) (sym e) ∙ o
 
-  shape-by : (r o k0 k1 k2 : Bool) → reserved_set w ≡ r → out_of_order (waiting p) w ≡ o → eqb (kind_of w) 0 ≡ k0 → eqb (kind_of w) 1 ≡ k1 → eqb (kind_of w) 2 ≡ k2
+  shape-by : (r o k0 k1 k2 : Bool) → reserved_set w ≡ r → out_of_order p.waiting w ≡ o → eqb (kind_of w) 0 ≡ k0 → eqb (kind_of w) 1 ≡ k1 → eqb (kind_of w) 2 ≡ k2
       → Shape p w
       (cond r (refused Reserved)
       (cond o (refused OutOfOrder)
       (cond k0 (happened (Tick (ms_of w)))
-      (cond k1 (happened (Levels (levels_of w))) (cond k2 (kept (half_of w)) (happened (Telegram (joined (upper_of p) (half_of w)))))))))
+      (cond k1 (happened (Levels (levels_of w))) (cond k2 (kept (half_of w)) (happened (Telegram (joined p.upper (half_of w)))))))))
   shape-by true o k0 k1 k2 r q a b c = was-refused Reserved (omega arith)
   shape-by false true k0 k1 k2 r q a b c = was-refused OutOfOrder (omega arith)
   shape-by false false true k1 k2 r q a b c =
       let k : kind_of w ≡ 0 = eqb-true _ _ a in
-      was-tick (not-waiting (waiting p) 0 (order-at 0 k q) refl) (word-of-kind 0 k (reserved-at 0 k r))
+      was-tick (not-waiting p.waiting 0 (order-at 0 k q) refl) (word-of-kind 0 k (reserved-at 0 k r))
   shape-by false false false true k2 r q a b c =
       let k : kind_of w ≡ 1 = eqb-true _ _ b in
-      was-levels (not-waiting (waiting p) 1 (order-at 1 k q) refl) (word-of-levels k (reserved-at 1 k r))
+      was-levels (not-waiting p.waiting 1 (order-at 1 k q) refl) (word-of-levels k (reserved-at 1 k r))
   shape-by false false false false true r q a b c =
       let k : kind_of w ≡ 2 = eqb-true _ _ c in
-      was_upper (not-waiting (waiting p) 2 (order-at 2 k q) refl) (word-of-kind 2 k (reserved-at 2 k r))
+      was_upper (not-waiting p.waiting 2 (order-at 2 k q) refl) (word-of-kind 2 k (reserved-at 2 k r))
   shape-by false false false false false r q a b c =
       let k : kind_of w ≡ 3 = omega (arith, eqb-false (kind_of w) 0 a, eqb-false (kind_of w) 1 b, eqb-false (kind_of w) 2 c) in
-      was_lower (was-waiting (waiting p) 3 (order-at 3 k q) refl) (word-of-kind 3 k (reserved-at 3 k r))
+      was_lower (was-waiting p.waiting 3 (order-at 3 k q) refl) (word-of-kind 3 k (reserved-at 3 k r))
 
   shape : Shape p w (taken_of p w)
   unfolding taken_of accepted_of
@@ -128,7 +128,7 @@ module _ (p : Pending) (w : ℕ) (small : w < 2 ^ 32) where
 
 -- the upper half that waits, as a word
 abbrev pub word_waiting : Pending → List ℕ
-word_waiting p = cond (waiting p) (word_with 2 (upper_of p) ∷ []) []
+word_waiting p = cond p.waiting (word_with 2 p.upper ∷ []) []
 
 upper-back : (u w : ℕ) → joined u (half_of w) / 2 ^ 16 ≡ u
 upper-back u w = omega arith
@@ -146,14 +146,14 @@ module _ (ws : List ℕ) (left : ℕ) (rest : (q : Pending) → (log_from q ws l
   step_back p w s (was_upper h e) z = rw h (rest (kept (half_of w)).pending z ∙ ap (λ (x : ℕ). x ∷ ws) (sym e))
   step_back p w s (was_lower h e) z =
       rw h
-      (ap₂ (λ (x y : ℕ). word_with 2 x ∷ (word_with 3 y ∷ written (log_from fresh_pending ws left).events)) (upper-back (upper_of p) w) (lower-back (upper_of p) w)
-      ∙ ap₂ (λ (x : ℕ) (l : List ℕ). word_with 2 (upper_of p) ∷ (x ∷ l)) (sym e) (rest fresh_pending z))
+      (ap₂ (λ (x y : ℕ). word_with 2 x ∷ (word_with 3 y ∷ written (log_from fresh_pending ws left).events)) (upper-back p.upper w) (lower-back p.upper w)
+      ∙ ap₂ (λ (x : ℕ) (l : List ℕ). word_with 2 p.upper ∷ (x ∷ l)) (sym e) (rest fresh_pending z))
 
 end_back : (p : Pending) (left : ℕ) → end_number (end_of p left) ≡ 0 → [] ≡ word_waiting p ++ []
 unfolding end_of
-end_back p left h = by (waiting p) (eqb left 0) h
+end_back p left h = by p.waiting (eqb left 0) h
   where
-    by : (b e : Bool) → end_number (cond e (cond b (Err OutOfOrder) (Ok tt)) (Err LeftOver)) ≡ 0 → [] ≡ cond b (word_with 2 (upper_of p) ∷ []) [] ++ []
+    by : (b e : Bool) → end_number (cond e (cond b (Err OutOfOrder) (Ok tt)) (Err LeftOver)) ≡ 0 → [] ≡ cond b (word_with 2 p.upper ∷ []) [] ++ []
     by false e h = refl
     by true true h = absurd (omega arith)
     by true false h = absurd (omega arith)

@@ -1,7 +1,6 @@
 -- A log gives its events in order and then a number: 0 at its end, or the 14, 15 or 16 that ends it.
 -- Paper 01, "panelrun and its log", and "Where each check sits", log.
-use Rattle.std.specs.Prelude.{Bool, cond, not, List, [], ◌∷◌, ℕ, eqb, Option, Some, None, Result, Ok, Err, is_some}
-use Rattle.std.specs.Option.{unwrap_or}
+use Rattle.std.specs.Prelude.{Bool, true, false, cond, not, List, [], ◌∷◌, ℕ, eqb, Option, Some, None, Result, Ok, Err}
 use Rattle.events.specs.declared.Event.{Event}
 use Rattle.events.specs.declared.Event.TheVariants.{Telegram, Levels, Tick}
 use Rattle.events.specs.declared.Pending.{Pending}
@@ -12,7 +11,11 @@ use Rattle.events.specs.Words.{kind_of, ms_of, levels_of, half_of, joined, reser
 
 -- no upper half is waiting: before the first word, and after each word but an upper half
 abbrev pub fresh_pending : Pending
-fresh_pending = record { upper = None }
+fresh_pending = record { waiting = false; upper = 0 }
+
+-- the upper half that waits, if one does
+abbrev pub half_waiting : Pending → Option ℕ
+half_waiting p = cond p.waiting (Some p.upper) None
 
 -- the numbers of the refusals
 abbrev pub refusal_number : Refusal → ℕ
@@ -44,17 +47,10 @@ abbrev pub happened : Event → AfterWord
 happened e = record { pending = fresh_pending; taken = Ok (Some e) }
 
 abbrev pub kept : ℕ → AfterWord
-kept upper = record { pending = record { upper = Some upper }; taken = Ok None }
+kept upper = record { pending = record { waiting = true; upper = upper }; taken = Ok None }
 
 abbrev pub refused : Refusal → AfterWord
 refused refusal = record { pending = fresh_pending; taken = Err refusal }
-
--- whether an upper half is waiting, and it, 0 where none is
-abbrev pub waiting : Pending → Bool
-waiting p = is_some p.upper
-
-abbrev pub upper_of : Pending → ℕ
-upper_of p = unwrap_or p.upper 0
 
 -- "A lower half comes directly after its upper half and nowhere else; anything else after an upper half .. gives 15":
 -- after an upper half each word but a lower half is out of order, elsewhere each lower half
@@ -70,7 +66,7 @@ accepted_of upper w =
 
 -- a word with no reserved bit set
 abbrev pub ordered_of : Pending → ℕ → AfterWord
-ordered_of p w = cond (out_of_order (waiting p) w) (refused OutOfOrder) (accepted_of (upper_of p) w)
+ordered_of p w = cond (out_of_order p.waiting w) (refused OutOfOrder) (accepted_of p.upper w)
 
 -- one word: "14 is tested before 15"
 unfoldable pub taken_of : Pending → ℕ → AfterWord
@@ -79,7 +75,7 @@ taken_of p w = cond (reserved_set w) (refused Reserved) (ordered_of p w)
 -- the log's end: "left-over bytes give 16 only, even after an upper half"; an upper half left waiting gives 15.
 -- A whole log leaves 0 to 3 bytes over; any number of them but 0 gives 16
 unfoldable pub end_of : Pending → ℕ → Result Unit Refusal
-end_of p left = cond (eqb left 0) (cond (waiting p) (Err OutOfOrder) (Ok tt)) (Err LeftOver)
+end_of p left = cond (eqb left 0) (cond p.waiting (Err OutOfOrder) (Ok tt)) (Err LeftOver)
 
 -- its number: 0 where it is not refused
 abbrev pub end_number : Result Unit Refusal → ℕ

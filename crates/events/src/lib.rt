@@ -7,7 +7,7 @@ mod parts;
 ghost use Rattle.std.specs.Prelude.{◌≡◌};
 ghost use Rattle.events.specs.Words.{word_at};
 ghost use Rattle.events.specs.Bytes.{least_first};
-ghost use Rattle.events.specs.Log.{fresh_pending, refusal_number, number_told, refusal_of, kept, refused, happened, ordered_of, taken_of, end_of};
+ghost use Rattle.events.specs.Log.{fresh_pending, half_waiting, refusal_number, number_told, refusal_of, kept, refused, happened, ordered_of, taken_of, end_of};
 
 use parts::Kind;
 
@@ -25,8 +25,20 @@ pub enum Event {
 // What is kept from one word of the log to the next.
 #[derive(Clone, Copy)]
 pub struct Pending {
-    // The upper half that waits for its lower half, where the word before was one.
-    pub upper: Option<u16>,
+    // Whether the word before was an upper half, which waits for its lower half.
+    // Kept: a flag beside the half, since an Option would take fewer values than callers may hand over.
+    pub waiting: bool,
+    // The upper half, 0 where none is waiting.
+    pub upper: u16,
+}
+
+impl Pending {
+    // The upper half that waits for its lower half, if one does.
+    fn half(self) -> Option<u16>
+        ensures { result ≡ half_waiting self }
+    {
+        if self.waiting { Some(self.upper) } else { None }
+    }
 }
 
 // Why a log is refused, which ends it.
@@ -84,7 +96,10 @@ pub struct AfterWord {
 pub fn fresh() -> Pending
     ensures { result ≡ fresh_pending }
 {
-    Pending { upper: None }
+    Pending {
+        waiting: false,
+        upper: 0,
+    }
 }
 
 // A word of four bytes, the lowest first.
@@ -126,14 +141,17 @@ fn keep(upper: u16) -> AfterWord
     ensures { result ≡ kept upper }
 {
     AfterWord {
-        pending: Pending { upper: Some(upper) },
+        pending: Pending {
+            waiting: true,
+            upper,
+        },
         taken: Ok(None),
     }
 }
 
 // A word directly after the upper half `upper`.
 fn after_upper(upper: u16, w: u32) -> AfterWord
-    ensures { result ≡ ordered_of (record { upper = Some upper }) w }
+    ensures { result ≡ ordered_of (kept upper).pending w }
 {
     match parts::kind_of(w) {
         Kind::Lower => give(Event::Telegram(parts::telegram(upper, parts::half(w)))),
@@ -160,7 +178,7 @@ pub fn take(p: Pending, w: u32) -> AfterWord
     if parts::reserved_set(w) {
         return refuse(Refusal::Reserved);
     }
-    match p.upper {
+    match p.half() {
         Some(upper) => after_upper(upper, w),
         None => elsewhere(w),
     }
@@ -173,7 +191,7 @@ pub fn end(p: Pending, left_over: usize) -> Result<(), Refusal>
     if left_over != 0 {
         return Err(Refusal::LeftOver);
     }
-    match p.upper {
+    match p.half() {
         Some(_) => Err(Refusal::OutOfOrder),
         None => Ok(()),
     }

@@ -47,7 +47,7 @@ unfoldable pub clear_locks_of : State → State
 clear_locks_of s = state_of s.table (locks_cleared s.live)
 
 -- 4, clear least and greatest: both at the present result, or none under an error or before the first telegram
-unfoldable pub extremes_at : Bool → ℕ → ℤ → Option Extremes
+unfoldable pub extremes_at : Bool → ℕ → ℤ → Extremes
 extremes_at seen error result = cond (seen && eqb error 0) (both_at result) no_extremes
 
 -- K6: and the record's lowest and highest empty; the end of the event sets both to present where the line is driven (`cleared-there` of driverecord)

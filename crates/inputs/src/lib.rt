@@ -77,16 +77,21 @@ fn clear_locks(l: Live) -> Live
 }
 
 // Least and greatest both at a result, or none before the first telegram or under an error.
-fn extremes_at(seen: bool, error: Option<Error>, res: i32) -> Option<Extremes>
+fn extremes_at(seen: bool, error: Option<Error>, res: i32) -> Extremes
     ensures { result ≡ extremes_at seen (error_number error) res }
 {
     if seen & error.is_none() {
-        return Some(Extremes {
+        return Extremes {
+            any: true,
             least: res,
             greatest: res,
-        });
+        };
     }
-    None
+    Extremes {
+        any: false,
+        least: 0,
+        greatest: 0,
+    }
 }
 
 // Clear least and greatest: both at the present result, or none; and the record of the drive empty.

@@ -1,7 +1,7 @@
 -- THE MEANING OF A LINE of the gate's runs: what is kept after it (`after_line`), and what is printed for it (`line_text`).
 -- A run is a table, given by what differs from the defaults, and a log, given piece by piece; it prints what panelrun prints. The other lines ask what panelrun does not print.
 -- Main property (SheetLaws): what is printed fits into `room` bytes. Assumes nothing.
-use Rattle.std.specs.Prelude.{Bool, true, false, cond, Option, Some, None, List, [], ◌∷◌, ◌++◌, map, ℕ, ◌+◌, ◌*◌, ◌^◌, ◌-◌, eqb, ltb, ℤ, pos, length, take, Result, Ok, Err, is_none}
+use Rattle.std.specs.Prelude.{Bool, true, false, cond, Option, Some, None, List, [], ◌∷◌, ◌++◌, map, ℕ, ◌+◌, ◌*◌, ◌^◌, ◌-◌, eqb, ltb, ℤ, length, take, Result, Ok, Err, is_none}
 use mir.Val.{bool_byte}
 use Rattle.text.specs.HexList.{hexes_of}
 use Rattle.state.specs.declared.Extremes.{Extremes as LeastAndGreatest}
@@ -174,13 +174,8 @@ cut_text line = told_by (number_behind line)
 abbrev pub results_text : ℕ → ℤ → ℤ → List ℕ
 results_text any least greatest = line_with (number any ∷ text_of least ∷ text_of greatest ∷ [])
 
--- 0 0 0 where there are none
-unfoldable pub extremes_numbers : Option LeastAndGreatest → List ℕ
-extremes_numbers None = results_text 0 (pos 0) (pos 0)
-extremes_numbers (Some x) = results_text 1 x.least x.greatest
-
-unfoldable pub extremes_text : Option LeastAndGreatest → List ℕ
-extremes_text x = (extremes_word ++ (space ∷ [])) ++ extremes_numbers x
+unfoldable pub extremes_text : LeastAndGreatest → List ℕ
+extremes_text x = (extremes_word ++ (space ∷ [])) ++ results_text (bool_byte x.any) x.least x.greatest
 
 -- ---- the lines of `script`: `slot N V`, `start`, and events that the panel is stepped with directly
 

@@ -50,7 +50,7 @@ use Rattle.sheet.specs.LogWordLaws.{log-fits}
 use Rattle.events.specs.Bytes.{bytes_of}
 use Rattle.sheet.specs.LogWords.{is_log}
 use Rattle.sheet.specs.Orders.{word_named}
-use Rattle.sheet.specs.Sheet.{extremes_numbers, with_run, wrong_line, loaded_by, after_start, start_text, after_piece, piece_of, words_behind, after_log, log_text, full_end, numbers_text, build_text, read_text, diagnose_text, question_text, number_behind, answer_text, asked_text, given_by, after_cut, told_by, cut_text, extremes_text, after_event, event_text, after_plain, plain_text, after_word, word_text, after_line, line_text, room, built_text, content_text, diagnosis_text}
+use Rattle.sheet.specs.Sheet.{with_run, wrong_line, loaded_by, after_start, start_text, after_piece, piece_of, words_behind, after_log, log_text, full_end, numbers_text, build_text, read_text, diagnose_text, question_text, number_behind, answer_text, asked_text, given_by, after_cut, told_by, cut_text, extremes_text, after_event, event_text, after_plain, plain_text, after_word, word_text, after_line, line_text, room, built_text, content_text, diagnosis_text}
 
 -- ---- THE RUN THAT IS KEPT STAYS VALID
 
@@ -154,10 +154,9 @@ told-most : (n : Option ℕ) → length (told_by n) ≤ room
 told-most (Some n) = omega arith
 told-most None = omega arith
 
-extremes-most : (x : Option LeastAndGreatest) → length (extremes_text x) ≤ room
-unfolding extremes_numbers extremes_text
-extremes-most None = simp length-append (omega (arith, text-at-most-19 (pos 0)))
-extremes-most (Some x) = simp length-append (omega (arith, text-at-most-19 (pos 1), text-at-most-19 x.least, text-at-most-19 x.greatest))
+extremes-most : (x : LeastAndGreatest) → length (extremes_text x) ≤ room
+unfolding extremes_text
+extremes-most x = simp length-append (omega (arith, text-at-most-19 (pos (bool_byte x.any)), text-at-most-19 x.least, text-at-most-19 x.greatest))
 
 plain-most : (s : Sheet) (c : Command) → length (plain_text s c) ≤ room
 unfolding plain_text start_text

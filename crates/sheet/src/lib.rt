@@ -240,19 +240,16 @@ fn diagnosis(t: &[i32; 104], telegram: u32, out: &mut [u8]) -> usize
 }
 
 // Least and greatest.
-fn extremes(x: Option<Extremes>, out: &mut [u8]) -> usize
+fn extremes(x: Extremes, out: &mut [u8]) -> usize
     requires { longest ≤ length out.old }
     ensures { Put out.old 0 (extremes_text x) result out.new }
 {
     let p1 = text::put_bytes(out, 0, b"extremes ");
-    match x {
-        None => put_results(out, p1, 0, 0, 0),
-        Some(e) => put_results(out, p1, 1, e.least, e.greatest),
-    }
+    put_results(out, p1, x.any as u32, x.least, x.greatest)
 }
 
 // Least and greatest of the run.
-fn extremes_of(s: Sheet) -> Option<Extremes>
+fn extremes_of(s: Sheet) -> Extremes
     ensures { result ≡ s.progress.state.live.extremes }
 {
     let p = s.progress;

@@ -1,6 +1,6 @@
 -- The state of a panel, its fresh state, its parts set anew, and the result worked out. Paper 01, "Events and inputs", "a fresh state"; paper 02, K6, the record.
 -- The table in force stands in the state: a reset stores its offset, a teach a preselection. The live values stand beside it. Assumes nothing.
-use Rattle.std.specs.Prelude.{true, false, Option, List, [], ◌∷◌, ℕ, ℤ, pos, None}
+use Rattle.std.specs.Prelude.{true, false, List, [], ◌∷◌, ℕ, ℤ, pos, None}
 use Rattle.analog.specs.declared.Drive.TheVariants.{Off}
 use Rattle.driverecord.specs.declared.DriveRecord.{DriveRecord}
 use Rattle.driverecord.specs.DriveRecord.{fresh_record, updated_of}
@@ -50,7 +50,7 @@ set_levels l x = record { levels = x; seen = l.seen; basis = l.basis; reading = 
 abbrev pub set_basis : Live → Basis → Live
 set_basis l x = record { levels = l.levels; seen = true; basis = x; reading = l.reading; shown = l.shown; extremes = l.extremes; driven = l.driven; switches = l.switches }
 
-abbrev pub set_reading : Live → Reading → Option Extremes → Live
+abbrev pub set_reading : Live → Reading → Extremes → Live
 set_reading l x y = record { levels = l.levels; seen = l.seen; basis = l.basis; reading = x; shown = l.shown; extremes = y; driven = l.driven; switches = l.switches }
 
 -- a reading, and least and greatest with it

@@ -18,6 +18,9 @@ use switching::Switch;
 // The least and the greatest error-free result.
 #[derive(Clone, Copy)]
 pub struct Extremes {
+    // Whether there is one.
+    // Kept: a flag beside the two, since an Option of both would take fewer values than callers may hand over.
+    pub any: bool,
     pub least: i32,
     pub greatest: i32,
 }
@@ -35,8 +38,7 @@ pub struct Live {
     pub reading: Reading,
     // The shown value.
     pub shown: i32,
-    // Least and greatest, once there is an error-free result.
-    pub extremes: Option<Extremes>,
+    pub extremes: Extremes,
     // Present, lowest and highest drive.
     pub driven: DriveRecord,
     // The four preselections' conditions, pulses and locks.
@@ -116,7 +118,11 @@ pub fn fresh(table: [i32; 104]) -> State
                 drive: analog::Drive::Off,
             },
             shown: 0,
-            extremes: None,
+            extremes: Extremes {
+                any: false,
+                least: 0,
+                greatest: 0,
+            },
             driven: driverecord::fresh(),
             switches: [off; 4],
         },
@@ -165,21 +171,23 @@ fn higher(a: i32, b: i32) -> i32
 }
 
 // Least and greatest with one more reading.
-fn widened(x: Option<Extremes>, r: Reading) -> Option<Extremes>
+fn widened(x: Extremes, r: Reading) -> Extremes
     ensures { result ≡ widened_of x r }
 {
     if r.error.is_some() {
         return x;
     }
-    match x {
-        None => Some(Extremes {
-            least: r.result,
-            greatest: r.result,
-        }),
-        Some(e) => Some(Extremes {
-            least: lower(r.result, e.least),
-            greatest: higher(r.result, e.greatest),
-        }),
+    if x.any {
+        return Extremes {
+            any: true,
+            least: lower(r.result, x.least),
+            greatest: higher(r.result, x.greatest),
+        };
+    }
+    Extremes {
+        any: true,
+        least: r.result,
+        greatest: r.result,
     }
 }
 
@@ -205,7 +213,7 @@ pub fn received(l: Live, b: Basis, r: Reading) -> Live
 }
 
 // Another reading, with least and greatest.
-pub fn with_reading(l: Live, reading: Reading, extremes: Option<Extremes>) -> Live
+pub fn with_reading(l: Live, reading: Reading, extremes: Extremes) -> Live
     ensures { result ≡ set_reading l reading extremes }
 {
     let mut n = l;

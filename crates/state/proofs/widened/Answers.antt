@@ -11,26 +11,20 @@ pub returns-then-is_some : goal.returns-then-is_some
 unfolding widened_of
 returns-then-is_some c = rw (no-error-numbered c.args.r.error, ← c.is_some.ensures, c.if-is_some.true)
 
-pub returns-in-None : goal.returns-in-None
+pub returns-then-x : goal.returns-then-x
 unfolding widened_of
-returns-in-None c = let r = c.args.r in
-    let er : bk w32 r.result ≡ r.result = search rules in
-    rw (no-error-numbered c.args.r.error, ← c.is_some.ensures, c.if-is_some.false, c.in-None.is, er)
-
-pub returns-in-Some : goal.returns-in-Some
-unfolding widened_of
-returns-in-Some c = let l = c.lower in
+returns-then-x c = let l = c.lower in
     let h = c.higher in
-    let e = c.in-Some.e in
+    let x = c.args.x in
     let r = c.args.r in
     let er : bk w32 r.result ≡ r.result = search rules in
-    let el : bk w32 e.least ≡ e.least = search rules in
-    let eg : bk w32 e.greatest ≡ e.greatest = search rules in
+    let el : bk w32 x.least ≡ x.least = search rules in
+    let eg : bk w32 x.greatest ≡ x.greatest = search rules in
     rw (
-      no-error-numbered c.args.r.error,
+      no-error-numbered r.error,
       ← c.is_some.ensures,
       c.if-is_some.false,
-      c.in-Some.is,
+      c.if-x.true,
       back_at w32 l.result l.type_inv,
       back_at w32 h.result h.type_inv,
       l.ensures,
@@ -39,3 +33,9 @@ returns-in-Some c = let l = c.lower in
       el,
       eg,
     )
+
+pub returns : goal.returns
+unfolding widened_of
+returns c = let r = c.args.r in
+    let er : bk w32 r.result ≡ r.result = search rules in
+    rw (no-error-numbered r.error, ← c.is_some.ensures, c.if-is_some.false, c.if-x.false, er)
