@@ -12,13 +12,13 @@ use Rattle.addresses.specs.Search.{lowest_above}
 use Rattle.addresses.proofs.SearchLaws.{by_found, lowest-none, lowest-is}
 use Rattle.dispatcher.specs.declared.Group.{Group}
 use Rattle.dispatcher.specs.declared.Dispatcher.{Dispatcher}
-use Rattle.dispatcher.specs.Dispatch.{group_of, member, some, last_of, next_of, after_error, error_turn, kept_of, polled_of, polls, pick_of}
+use Rattle.dispatcher.specs.Dispatch.{group_of, member, some, next_of, after_error, error_turn, kept_of, polled_of, polls, pick_of}
 
 -- ---- a group with a member, and one with none
 
 module _ (g : Group) where
   abbrev higher : Option ℕ
-  higher = lowest_above (member g) (last_of g)
+  higher = lowest_above (member g) g.last
 
   abbrev lowest : Option ℕ
   lowest = lowest_above (member g) 0
@@ -49,7 +49,7 @@ module _ (g : Group) where
   next-some a e =
       by_found higher
       (λ h. ap is_some (sym (next-lowest h) ∙ e))
-      (λ b h. let r = lowest-is (member g) (suc (last_of g)) (255 - last_of g) b h in
+      (λ b h. let r = lowest-is (member g) (suc g.last) (255 - g.last) b h in
       some-member b (omega arith) (omega arith) r.passes)
 
   pub some-next : some g ≡ true → (b : ℕ) × (next_of g ≡ Some b)
@@ -59,7 +59,7 @@ module _ (g : Group) where
       (λ b h. (b, next-higher b h))
 
   pub next-empty : is_empty g.members ≡ true → next_of g ≡ None
-  next-empty e = next-lowest (empty-lowest g.members e (last_of g)) ∙ empty-lowest g.members e 0
+  next-empty e = next-lowest (empty-lowest g.members e g.last) ∙ empty-lowest g.members e 0
 
 -- ---- which group a pick polls
 

@@ -1,7 +1,7 @@
 -- Paper 02, K12, the rules of the dispatcher: who is registered, who is in error, whose turn it is, and what each call answers.
 -- What the rules come to, the promise of 2n picks among it, stands in the crate `waiting`.
-use Rattle.std.specs.Prelude.{Bool, true, false, not, cond, ◌&&◌, ◌||◌, ℕ, ltb, leb, Option, None, Some, Result, Ok, Err}
-use Rattle.std.specs.Option.{is_some, unwrap_or, option_or}
+use Rattle.std.specs.Prelude.{Bool, true, false, not, cond, ◌&&◌, ◌||◌, ℕ, ltb, leb, eqb, Option, None, Some, Result, Ok, Err}
+use Rattle.std.specs.Option.{is_some, option_or}
 use Rattle.addresses.specs.Addresses.{nothing, holds, including, excluding}
 use Rattle.addresses.specs.Search.{lowest_above, count_all}
 use Rattle.dispatcher.specs.declared.Group.{Group}
@@ -71,17 +71,13 @@ panels d = count_all (present d)
 
 -- ---- turns
 
--- the address that a group polled last; 0, which is no panel's, before its first poll
-abbrev pub last_of : Group → ℕ
-last_of g = unwrap_or g.last 0
-
 -- "the member with the next higher address after the one this group polled last, and at first or after the highest the lowest", if it has a member
 unfoldable pub next_of : Group → Option ℕ
-next_of g = option_or (lowest_above (member g) (last_of g)) (lowest_above (member g) 0)
+next_of g = option_or (lowest_above (member g) g.last) (lowest_above (member g) 0)
 
 -- the last poll of all was of a panel in error
 abbrev pub after_error : Dispatcher → Bool
-after_error d = d.faulty
+after_error d = eqb d.faulty 1
 
 -- "Panels in error go first, but never two such polls in a row while an ordinary panel is registered"
 unfoldable pub error_turn : Dispatcher → Bool
@@ -90,10 +86,10 @@ error_turn d = some d.error && not (after_error d && some d.ordinary)
 -- ---- what changes
 
 abbrev pub empty_group : Group
-empty_group = record { members = nothing; last = None }
+empty_group = record { members = nothing; last = 0 }
 
 abbrev pub fresh_of : Dispatcher
-fresh_of = record { error = empty_group; ordinary = empty_group; faulty = false }
+fresh_of = record { error = empty_group; ordinary = empty_group; faulty = 0 }
 
 abbrev pub entered : Group → ℕ → Group
 entered g a = record { members = including g.members a; last = g.last }
@@ -112,11 +108,11 @@ with_report d a false = record { error = left d.error a; ordinary = entered d.or
 
 -- the group that polls keeps the address; it "waits anew after its poll", so nobody leaves
 abbrev pub polled_by : Group → ℕ → Group
-polled_by g a = record { members = g.members; last = Some a }
+polled_by g a = record { members = g.members; last = a }
 
 abbrev pub kept_of : Dispatcher → Bool → ℕ → Dispatcher
-kept_of d true a = record { error = polled_by d.error a; ordinary = d.ordinary; faulty = true }
-kept_of d false a = record { error = d.error; ordinary = polled_by d.ordinary a; faulty = false }
+kept_of d true a = record { error = polled_by d.error a; ordinary = d.ordinary; faulty = 1 }
+kept_of d false a = record { error = d.error; ordinary = polled_by d.ordinary a; faulty = 0 }
 
 -- ---- what each call leaves and answers
 

@@ -54,8 +54,9 @@ pub fn number_of(answer: Result<(), Refusal>) -> u8
 pub struct Group {
     // Their addresses.
     pub members: Addresses,
-    // The address that the group polled last, if any.
-    pub last: Option<u8>,
+    // The address that the group polled last, 0 for none yet.
+    // Kept: a word of 64 bits, since an `Option<u8>` would take fewer values than callers may hand over, and leave a gap whose copies wait.
+    pub last: u64,
 }
 
 // The panels of a line, and where the polling stands.
@@ -65,8 +66,9 @@ pub struct Dispatcher {
     pub error: Group,
     // The other ones.
     pub ordinary: Group,
-    // Whether the last poll of all was of a panel in error.
-    pub faulty: bool,
+    // 1 where the last poll of all was of a panel in error.
+    // Kept: a word of 64 bits, since a bool would take fewer values than callers may hand over, and leave a gap whose copies wait.
+    pub faulty: u64,
 }
 
 // A dispatcher with no panel.
@@ -75,12 +77,12 @@ pub fn fresh() -> Dispatcher
 {
     let empty = Group {
         members: Addresses::new(),
-        last: None,
+        last: 0,
     };
     Dispatcher {
         error: empty,
         ordinary: empty,
-        faulty: false,
+        faulty: 0,
     }
 }
 
@@ -102,9 +104,8 @@ impl Group {
         if self.members.is_empty() {
             return None;
         }
-        let last = self.last.unwrap_or(0);
         self.members
-            .lowest_above(u64::from(last))
+            .lowest_above(self.last)
             .or_else(|| self.members.lowest_above(0))
     }
 }
@@ -121,12 +122,14 @@ impl Dispatcher {
     fn keep(&mut self, error: bool, a: u8)
         ensures { self.new ≡ kept_of self.old error a }
     {
+        let last = u64::from(a);
         if error {
-            self.error.last = Some(a);
+            self.error.last = last;
+            self.faulty = 1;
         } else {
-            self.ordinary.last = Some(a);
+            self.ordinary.last = last;
+            self.faulty = 0;
         }
-        self.faulty = error;
     }
 
     // Whether a panel is registered at an address.
@@ -193,12 +196,12 @@ impl Dispatcher {
     pub fn pick(&mut self) -> Option<u8>
         ensures { (self.new, result) ≡ pick_of self.old }
     {
-        let first = !self.faulty;
+        let first = self.faulty != 1;
         if let Some(a) = self.group(first).next() {
             self.keep(first, a);
             return Some(a);
         }
-        let second = self.faulty;
+        let second = self.faulty == 1;
         let b = self.group(second).next()?;
         self.keep(second, b);
         Some(b)

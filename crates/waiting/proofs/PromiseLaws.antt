@@ -13,7 +13,7 @@ use Rattle.integers.specs.TestLaws.{and_both, and-false}
 use Rattle.addresses.specs.Search.{count_all}
 use Rattle.addresses.proofs.SearchLaws.{count_less, count_same}
 use Rattle.dispatcher.specs.declared.Dispatcher.{Dispatcher}
-use Rattle.dispatcher.specs.Dispatch.{group_of, member, some, in_error, present, panels, fresh_of, last_of, next_of, after_error, kept_of, Turn, polled_of, polls, pick_of}
+use Rattle.dispatcher.specs.Dispatch.{group_of, member, some, in_error, present, panels, fresh_of, next_of, after_error, kept_of, Turn, polled_of, polls, pick_of}
 use Rattle.dispatcher.proofs.TurnLaws.{some-member, some-next, pick_first, pick_second}
 use Rattle.waiting.specs.Steps.{Step, picks, reports, registers, after, ran, choices}
 use Rattle.waiting.specs.Promise.{Steady, PolledWithin, Promise, quiet, QuietPromise}
@@ -88,7 +88,7 @@ waits-own true = refl
 waits-own false = refl
 
 remaining : Dispatcher → Bool → ℕ → ℕ
-remaining d g a = 2 * rivals (present d) (last_of (group_of d g)) a + waits (after_error d) g
+remaining d g a = 2 * rivals (present d) (group_of d g).last a + waits (after_error d) g
 
 -- after a poll of the group, and after one of the other
 remaining-own : (d : Dispatcher) (g : Bool) (a b : ℕ) → remaining (kept_of d g b) g a ≤ 2 * rivals (present d) b a + 1
@@ -96,7 +96,7 @@ unfolding remaining
 remaining-own d true a b = omega (arith, waits-most true true)
 remaining-own d false a b = omega (arith, waits-most false false)
 
-remaining-other : (d : Dispatcher) (g : Bool) (a b : ℕ) → remaining (kept_of d (not g) b) g a ≡ 2 * rivals (present d) (last_of (group_of d g)) a
+remaining-other : (d : Dispatcher) (g : Bool) (a b : ℕ) → remaining (kept_of d (not g) b) g a ≡ 2 * rivals (present d) (group_of d g).last a
 unfolding remaining waits
 remaining-other d true a b = omega arith
 remaining-other d false a b = omega arith
@@ -104,8 +104,8 @@ remaining-other d false a b = omega arith
 -- after a step that is no pick
 remaining-same : (d c : Dispatcher) (g : Bool) (a : ℕ) → ((x : ℕ) → present c x ≡ present d x) → Still d c → remaining c g a ≡ remaining d g a
 unfolding remaining
-remaining-same d c true a same s = rw (s.in-error, s.faulty, rivals-same (present d) (present c) (last_of d.error) a same)
-remaining-same d c false a same s = rw (s.ordinary, s.faulty, rivals-same (present d) (present c) (last_of d.ordinary) a same)
+remaining-same d c true a same s = rw (s.in-error, s.faulty, rivals-same (present d) (present c) d.error.last a same)
+remaining-same d c false a same s = rw (s.ordinary, s.faulty, rivals-same (present d) (present c) d.ordinary.last a same)
 
 -- ---- one pick
 
@@ -125,7 +125,7 @@ module _ (d : Dispatcher) (a : ℕ) (low : 0 < a) (high : a < 256) where
   own-poll : (g : Bool) (b : ℕ) → Nearest (group_of d g) a b → Falls g (polled_of d g (Some b))
   unfolding Falls remaining
   own-poll g b m =
-      let k = last_of (group_of d g) in
+      let k = (group_of d g).last in
       either (eqb b a)
       (λ same. inl (ap Some (eqb→eq b a same)))
       (λ other.
@@ -183,7 +183,7 @@ unfolding remaining
 promise d a ss t st h =
     let r = registered-is d a t in
     reach (in_error d a) a (2 * panels d) ss d r.low (omega arith) r.is refl st
-    (omega (arith, rivals-most (present d) (last_of (group_of d (in_error d a))) a r.low (omega arith) r.is, waits-most (after_error d) (in_error d a)))
+    (omega (arith, rivals-most (present d) (group_of d (in_error d a)).last a r.low (omega arith) r.is, waits-most (after_error d) (in_error d a)))
     h
 
 -- ---- picks and reports alone

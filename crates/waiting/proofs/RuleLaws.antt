@@ -15,7 +15,7 @@ use Rattle.addresses.specs.Search.{lowest_above}
 use Rattle.addresses.proofs.SearchLaws.{by_found, lowest-none, lowest-is, count_same, count-more, count_none, count-zero}
 use Rattle.dispatcher.specs.declared.Group.{Group}
 use Rattle.dispatcher.specs.declared.Dispatcher.{Dispatcher}
-use Rattle.dispatcher.specs.Dispatch.{outside, present, registered, in_error, member, some, panels, last_of, next_of, after_error, error_turn, Answer, Turn, polled_of, polls, group_of, with_panel, with_report, fresh_of, register_of, report_of, pick_of}
+use Rattle.dispatcher.specs.Dispatch.{outside, present, registered, in_error, member, some, panels, next_of, after_error, error_turn, Answer, Turn, polled_of, polls, group_of, with_panel, with_report, fresh_of, register_of, report_of, pick_of}
 use Rattle.dispatcher.proofs.TurnLaws.{some-member, next-higher, next-lowest, next-some, some-next, pick-nobody}
 use Rattle.dispatcher.proofs.CallLaws.{inside, in-range}
 use Rattle.waiting.specs.Steps.{Step, picks, reports, registers, after, ran, no_pick}
@@ -80,7 +80,7 @@ none-member g n x low high =
 
 module _ (g : Group) where
   abbrev k : ℕ
-  k = last_of g
+  k = g.last
 
   abbrev up : Option ℕ
   up = lowest_above (member g) k
@@ -287,7 +287,7 @@ error-turn d a p e i = by-poll (polled-by d a e)
     by-poll (in-error t _) = t
     by-poll (ordinary _ m) = absurd (clash (p.apart a (is_true (in_error d a) i)) m)
 
-after-error : (d : Dispatcher) → error_turn d ≡ true → (after d picks).faulty ≡ true
+after-error : (d : Dispatcher) → error_turn d ≡ true → (after d picks).faulty ≡ 1
 unfolding after pick_of
 after-error d e =
     ap (λ (b : Bool). (cond b (polls d true) (cond (some d.ordinary) (polls d false) (d, None))).0.faulty) e
@@ -300,7 +300,7 @@ never-two before between a b quiet e i f j x t =
     let w = whole-ran before in
     let p = parted-ran before in
     let q = parted-from between (after d picks) (whole-after d picks w) (parted-after d picks w p) in
-    let fault = between-still between (after d picks) quiet ∙ after-error d (error-turn d a p e i) in
+    let fault = ap (λ (n : ℕ). eqb n 1) (between-still between (after d picks) quiet ∙ after-error d (error-turn d a p e i)) in
     let none = (turn-halves c (error-turn c b q f j)).1 fault in
     let r = registered-is c x t in
     either (in_error c x) (λ y. y)

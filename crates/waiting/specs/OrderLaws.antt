@@ -7,7 +7,7 @@ use Rattle.integers.specs.TestLaws.{clash}
 use Rattle.addresses.specs.Search.{lowest_above}
 use Rattle.addresses.proofs.SearchLaws.{by_found, lowest-none, Lowest, lowest-is}
 use Rattle.dispatcher.specs.declared.Group.{Group}
-use Rattle.dispatcher.specs.Dispatch.{member, last_of, next_of}
+use Rattle.dispatcher.specs.Dispatch.{member, next_of}
 use Rattle.dispatcher.proofs.TurnLaws.{next-higher, next-lowest}
 
 -- ---- the order, as a number: how far x is behind k
@@ -65,11 +65,11 @@ pub record Nearest (g : Group) (a b : ℕ) : Type 0 where
   pub address : 0 < b
   pub below : b < 256
   pub passes : member g b ≡ true
-  pub nearest : way (last_of g) b ≤ way (last_of g) a
+  pub nearest : way g.last b ≤ way g.last a
 
 module _ (g : Group) (a : ℕ) (low : 0 < a) (high : a < 256) (is : member g a ≡ true) where
   abbrev k : ℕ
-  k = last_of g
+  k = g.last
 
   abbrev up : Option ℕ
   up = lowest_above (member g) k

@@ -2,7 +2,7 @@
 use Rattle.std.specs.Prelude.{◌≡◌, Bool, false, not, List, ℕ, None, Some, ◌≤◌, ◌<◌, T}
 use Rattle.dispatcher.specs.declared.Group.{Group}
 use Rattle.dispatcher.specs.declared.Dispatcher.{Dispatcher}
-use Rattle.dispatcher.specs.Dispatch.{fresh_of, outside, present, registered, in_error, member, panels, last_of, next_of, Answer, number_of, register_of, report_of, pick_of}
+use Rattle.dispatcher.specs.Dispatch.{fresh_of, outside, present, registered, in_error, member, panels, next_of, Answer, number_of, register_of, report_of, pick_of}
 use Rattle.waiting.specs.Steps.{Step, picks, reports, registers, after, ran, no_pick}
 
 -- "never two such polls in a row while an ordinary panel is registered": where a pick and the next one both choose a panel that is in error then, whoever is
@@ -18,8 +18,8 @@ NeverTwo =
 -- "Each group takes turns: the next is the member with the next higher address after the one this group polled last, and at first or after the highest the
 -- lowest". Addresses of a set are below 256, and 0 is nobody's
 pub record TakesTurns (g : Group) : Type 0 where
-  pub higher : (x : ℕ) → x < 256 → T (member g x) → last_of g < x → (b : ℕ) × (next_of g ≡ Some b) × T (member g b) × (last_of g < b) × (b ≤ x)
-  pub lowest : ((x : ℕ) → x < 256 → T (member g x) → x ≤ last_of g) →
+  pub higher : (x : ℕ) → x < 256 → T (member g x) → g.last < x → (b : ℕ) × (next_of g ≡ Some b) × T (member g b) × (g.last < b) × (b ≤ x)
+  pub lowest : ((x : ℕ) → x < 256 → T (member g x) → x ≤ g.last) →
       (x : ℕ) → 0 < x → x < 256 → T (member g x) → (b : ℕ) × (next_of g ≡ Some b) × T (member g b) × (0 < b) × (b ≤ x)
 
 abbrev pub Turns : Type 0

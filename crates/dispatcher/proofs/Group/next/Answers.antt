@@ -19,4 +19,4 @@ pub returns : goal.returns
 unfolding next_of
 returns c = let m = c.args.self.now.members in
     let low = or_by c.lowest_above.result c.or_else.result (lowest_above (holds m) 0) c.or_else.ensures (λ p. search rules) in
-    rw (c.lowest_above.ensures, c.from.ensures, c.unwrap_or-last.ensures) at low
+    rw c.lowest_above.ensures at low
