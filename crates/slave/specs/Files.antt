@@ -1,10 +1,9 @@
 -- What the inputs of the slave do: a line of TABLE to a table, a line of EVENTS and a frame to a panel. Request K2, "slave: on a real line".
 -- Main property: only a `slot` line changes a table and only an event steps a panel; any other line but a blank one is refused and changes nothing.
 -- A frame is answered as `registers` answers the bytes that the serial line holds.
-use Rattle.std.specs.Prelude.{ℕ, Option, None, Some, List, ℤ}
+use Rattle.std.specs.Prelude.{ℕ, Option, None, Some, List, ℤ, unwrap_or}
 use Rattle.state.specs.declared.State.{State}
 use Rattle.events.specs.declared.Event.{Event}
-use Rattle.events.specs.declared.Event.TheVariants as Event
 use Rattle.framing.specs.declared.Collector.{Collector}
 use Rattle.framing.specs.Collector.{held}
 use Rattle.panel.specs.Step.{step_of}
@@ -34,6 +33,10 @@ stepped_of s (Telegram w) = Some (moved_of s (Event.Telegram w))
 stepped_of s (Levels l) = Some (moved_of s (Event.Levels l))
 stepped_of s (Tick ms) = Some (moved_of s (Event.Tick ms))
 stepped_of s _ = None
+
+-- the panel with which the slave goes on behind a line: the one before it where the line is refused
+abbrev pub after_line : State → Command → State
+after_line s c = unwrap_or (stepped_of s c) s
 
 -- ---- a frame of the serial line
 

@@ -3,9 +3,10 @@
 // `script` for lines, `parameters` for the defaults, `decimal` for NODE, and `ports` to read and write.
 #![tactic(auto)]
 
-ghost use Rattle.std.specs.Prelude.{◌≤◌};
+ghost use Rattle.std.specs.Prelude.{◌≡◌, ◌≤◌};
 ghost use Rattle.state.specs.Valid.{Good};
 ghost use Rattle.modbus.specs.Replies.{longest_reply};
+ghost use Rattle.slave.specs.Files.{listed_of, after_line};
 
 use framing::Collector;
 use modbus::replies::Reply;
@@ -44,19 +45,29 @@ struct Slave {
     line: Collector,
 }
 
+// The table after a line of TABLE; one that is wrong is told, and gives none.
+fn take_row(
+    words: [i32; 104],
+    command: Command,
+    lines: &Stream,
+    errors: &mut Stderr,
+) -> Option<[i32; 104]>
+    ensures { result ≡ listed_of words command }
+{
+    let next = files::table_line(words, command);
+    if next.is_none() {
+        lines.refuse(b"TABLE", errors);
+    }
+    next
+}
+
 // The table that a file of `slot` lines gives: what is not named is the default. None where a line is refused or a read fails, which is told.
 fn read_table(mut file: File, path: &[u8], errors: &mut Stderr) -> Option<[i32; 104]> {
     let mut words = parameters::rows::defaults();
     let mut s = Stream::fresh();
     for _ in 0..u64::MAX {
         match s.next(&mut file) {
-            Ok(Some(command)) => match files::table_line(words, command) {
-                Some(next) => words = next,
-                None => {
-                    s.refuse(b"TABLE", errors);
-                    return None;
-                }
-            },
+            Ok(Some(command)) => words = take_row(words, command, &s, errors)?,
             Ok(None) => return Some(words),
             Err(e) => {
                 ports::write_failure(errors, path, e);
@@ -79,7 +90,8 @@ impl Slave {
     // Takes a line of EVENTS; one that is wrong is told, and changes nothing.
     fn take_event(&mut self, command: Command, errors: &mut Stderr)
         requires { Good self.old.state }
-        ensures { Good self.new.state }
+        ensures is { self.new ≡ record self.old { state = after_line self.old.state command } }
+        ensures valid { Good self.new.state }
     {
         match files::event_line(self.state, command) {
             Some(state) => self.state = state,
@@ -90,7 +102,9 @@ impl Slave {
     // Takes all lines of EVENTS that are there.
     fn drain(&mut self, file: &mut File, errors: &mut Stderr)
         requires { Good self.old.state }
-        ensures { Good self.new.state }
+        ensures node { self.new.node ≡ self.old.node }
+        ensures line { self.new.line ≡ self.old.line }
+        ensures valid { Good self.new.state }
     {
         for _ in 0..u64::MAX {
             match self.events.next(file) {
@@ -103,7 +117,9 @@ impl Slave {
     // The same where there may be no EVENTS.
     fn take_events(&mut self, wires: &mut Wires)
         requires { Good self.old.state }
-        ensures { Good self.new.state }
+        ensures node { self.new.node ≡ self.old.node }
+        ensures line { self.new.line ≡ self.old.line }
+        ensures valid { Good self.new.state }
     {
         if let Some(file) = &mut wires.events {
             self.drain(file, &mut wires.errors);

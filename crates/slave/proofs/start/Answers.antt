@@ -1,5 +1,5 @@
 -- `slave::start` is safe: a node with which a panel starts is at most 247, so it fits a byte.
-use Rattle.std.proofs.Common.{sym, ap, ◌∙◌, arith, rules}
+use Rattle.std.proofs.Common.{sym, ap, ◌∙◌, arith}
 use Rattle.registers.specs.declared.Started.{Started}
 use Rattle.registers.proofs.StartLaws.{starts}
 use Rattle.slave.proofs.start.Goals as goal
