@@ -21,7 +21,7 @@ use analog::Drive;
 use events::Event;
 use measurement::Error;
 use reading::Halves;
-use ssi::Diagnosis;
+use ssi::{Built, Diagnosis};
 use state::{Live, Outcome, Refusal, State};
 use switching::Switch;
 
@@ -249,7 +249,7 @@ pub fn load(words: &[i32]) -> Loaded
 }
 
 // The diagnosis of a telegram under a table: turns and place within the turn, or 11.
-pub fn diagnose(t: &[i32; 104], telegram: u32) -> Result<Diagnosis, ssi::Refusal>
+pub fn diagnose(t: &[i32; 104], telegram: u32) -> Diagnosis
     requires { Valid t.now }
     ensures { result ≡ diagnosed_of t.now telegram }
 {
@@ -257,7 +257,7 @@ pub fn diagnose(t: &[i32; 104], telegram: u32) -> Result<Diagnosis, ssi::Refusal
 }
 
 // The telegram of a position under a table, its error bit at the error level exactly when the error is asked for; or 17 or 18.
-pub fn build(t: &[i32; 104], position: u32, error: bool) -> Result<u32, ssi::Refusal>
+pub fn build(t: &[i32; 104], position: u32, error: bool) -> Built
     requires { Valid t.now }
     ensures { result ≡ built_by t.now position error }
 {

@@ -26,10 +26,10 @@ use Rattle.script.specs.declared.Command.{Command}
 use Rattle.script.specs.declared.Command.TheVariants.{Blank, Wrong, Node, Slot, Start, Halves, Record, Telegram, Burst, Levels, Tick, Frame}
 use Rattle.script.specs.Commands.{longest, command_of, frame_of, natural_of}
 use Rattle.settings.specs.Settings.{layout_of}
-use Rattle.ssi.specs.declared.Refusal.{Refusal}
+use Rattle.ssi.specs.declared.Built.{Built}
 use Rattle.ssi.specs.declared.Diagnosis.{Diagnosis}
 use Rattle.ssi.specs.declared.Content.{Content}
-use Rattle.ssi.specs.Telegram.{refusal_number, content_of}
+use Rattle.ssi.specs.Telegram.{number_told, content_of}
 use Rattle.text.specs.Marks.{space, newline, number}
 use Rattle.text.specs.Words.{words_of, first_of, others_of, only_of}
 use Rattle.sheet.specs.declared.orders.Question.{Question}
@@ -112,26 +112,23 @@ end_text s line = piece_of full_end s (frame_of line)
 abbrev pub numbers_text : ℕ → ℕ → ℕ → List ℕ
 numbers_text a b c = line_with (number a ∷ number b ∷ number c ∷ [])
 
--- position, refusal, telegram; "telegram 0 with its refusal"
-abbrev pub built_text : ℕ → Result ℕ Refusal → List ℕ
-built_text p (Ok w) = (build_word ++ (space ∷ [])) ++ numbers_text p 0 w
-built_text p (Err r) = (build_word ++ (space ∷ [])) ++ numbers_text p (refusal_number r) 0
+-- position, refusal, telegram
+abbrev pub built_text : ℕ → Built → List ℕ
+built_text p b = (build_word ++ (space ∷ [])) ++ numbers_text p (number_told b.refusal) b.telegram
 
 unfoldable pub build_text : List ℤ → ℕ → Bool → List ℕ
 build_text t p error = built_text p (built_by t p error)
 
--- refusal, position, error; 0 and 0 with a refusal
-abbrev pub content_text : Result Content Refusal → List ℕ
-content_text (Ok c) = (read_word ++ (space ∷ [])) ++ numbers_text 0 c.position (bool_byte c.error)
-content_text (Err r) = (read_word ++ (space ∷ [])) ++ numbers_text (refusal_number r) 0 0
+-- refusal, position, error
+abbrev pub content_text : Content → List ℕ
+content_text r = (read_word ++ (space ∷ [])) ++ numbers_text (number_told r.refusal) r.position (bool_byte r.error)
 
 unfoldable pub read_text : List ℤ → ℕ → List ℕ
 read_text t w = content_text (content_of (layout_of t) w)
 
--- refusal, turns, place; 0 and 0 with a refusal
-abbrev pub diagnosis_text : Result Diagnosis Refusal → List ℕ
-diagnosis_text (Ok d) = (diagnose_word ++ (space ∷ [])) ++ numbers_text 0 d.turns d.place
-diagnosis_text (Err r) = (diagnose_word ++ (space ∷ [])) ++ numbers_text (refusal_number r) 0 0
+-- refusal, turns, place
+abbrev pub diagnosis_text : Diagnosis → List ℕ
+diagnosis_text d = (diagnose_word ++ (space ∷ [])) ++ numbers_text (number_told d.refusal) d.turns d.place
 
 unfoldable pub diagnose_text : List ℤ → ℕ → List ℕ
 diagnose_text t w = diagnosis_text (diagnosed_of t w)

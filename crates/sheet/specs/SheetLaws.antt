@@ -34,10 +34,7 @@ use Rattle.script.specs.declared.Command.TheVariants.{Blank, Wrong, Node, Slot, 
 use Rattle.script.specs.Commands.{longest, command_of, frame_of}
 use Rattle.script.proofs.FrameLaws.{frame-fits}
 use Rattle.settings.specs.Settings.{layout_of}
-use Rattle.ssi.specs.declared.Content.{Content}
-use Rattle.ssi.specs.declared.Diagnosis.{Diagnosis}
-use Rattle.ssi.specs.declared.Refusal.{Refusal}
-use Rattle.ssi.specs.Telegram.{refusal_number, content_of}
+use Rattle.ssi.specs.Telegram.{number_told as told, content_of}
 use Rattle.text.specs.Put.{Put}
 use Rattle.text.specs.PutLaws.{put-within}
 use Rattle.text.specs.Words.{words_of, first_of}
@@ -50,7 +47,7 @@ use Rattle.sheet.specs.LogWordLaws.{log-fits}
 use Rattle.events.specs.Bytes.{bytes_of}
 use Rattle.sheet.specs.LogWords.{is_log}
 use Rattle.sheet.specs.Orders.{word_named}
-use Rattle.sheet.specs.Sheet.{with_run, wrong_line, loaded_by, after_start, start_text, after_piece, piece_of, words_behind, after_log, log_text, full_end, numbers_text, build_text, read_text, diagnose_text, question_text, number_behind, answer_text, asked_text, given_by, after_cut, told_by, cut_text, extremes_text, after_event, event_text, after_plain, plain_text, after_word, word_text, after_line, line_text, room, built_text, content_text, diagnosis_text}
+use Rattle.sheet.specs.Sheet.{with_run, wrong_line, loaded_by, after_start, start_text, after_piece, piece_of, words_behind, after_log, log_text, full_end, numbers_text, build_text, read_text, diagnose_text, question_text, number_behind, answer_text, asked_text, given_by, after_cut, told_by, cut_text, extremes_text, after_event, event_text, after_plain, plain_text, after_word, word_text, after_line, line_text, room}
 
 -- ---- THE RUN THAT IS KEPT STAYS VALID
 
@@ -127,24 +124,12 @@ opening-most l = by-test (is_none l.refusal) _ _ (λ (x : List ℕ). length x �
 numbers-most : (a b c : ℕ) → length (numbers_text a b c) ≤ 60
 numbers-most a b c = simp length-append (omega (arith, text-at-most-19 (pos a), text-at-most-19 (pos b), text-at-most-19 (pos c)))
 
-built-most : (p : ℕ) (b : Result ℕ Refusal) → length (built_text p b) ≤ room
-built-most p (Ok w) = rw length-append (omega (arith, numbers-most p 0 w))
-built-most p (Err r) = rw length-append (omega (arith, numbers-most p (refusal_number r) 0))
-
-content-most : (b : Result Content Refusal) → length (content_text b) ≤ room
-content-most (Ok c) = rw length-append (omega (arith, numbers-most 0 c.position (bool_byte c.error)))
-content-most (Err r) = rw length-append (omega (arith, numbers-most (refusal_number r) 0 0))
-
-diagnosis-most : (b : Result Diagnosis Refusal) → length (diagnosis_text b) ≤ room
-diagnosis-most (Ok d) = rw length-append (omega (arith, numbers-most 0 d.turns d.place))
-diagnosis-most (Err r) = rw length-append (omega (arith, numbers-most (refusal_number r) 0 0))
-
 question-most : (t : List ℤ) (q : Question) (n : ℕ) → length (question_text t q n) ≤ room
 unfolding question_text build_text read_text diagnose_text
-question-most t Build n = built-most n (built_by t n false)
-question-most t Fault n = built-most n (built_by t n true)
-question-most t Read n = content-most (content_of (layout_of t) n)
-question-most t Diagnose n = diagnosis-most (diagnosed_of t n)
+question-most t Build n = rw length-append (omega (arith, numbers-most n (told (built_by t n false).refusal) (built_by t n false).telegram))
+question-most t Fault n = rw length-append (omega (arith, numbers-most n (told (built_by t n true).refusal) (built_by t n true).telegram))
+question-most t Read n = let r = content_of (layout_of t) n in rw length-append (omega (arith, numbers-most (told r.refusal) r.position (bool_byte r.error)))
+question-most t Diagnose n = let d = diagnosed_of t n in rw length-append (omega (arith, numbers-most (told d.refusal) d.turns d.place))
 
 answer-most : (s : Sheet) (q : Question) (n : Option ℕ) → length (answer_text s q n) ≤ room
 answer-most s q (Some n) = question-most s.progress.state.table q n

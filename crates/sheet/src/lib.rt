@@ -15,6 +15,7 @@ ghost use Rattle.logrun.specs.Output.{opening_text};
 ghost use Rattle.panel.specs.Load.{loaded_of};
 ghost use Rattle.parameters.specs.Valid.{Valid};
 ghost use Rattle.script.specs.Commands.{command_of};
+ghost use Rattle.ssi.specs.Telegram.{number_told};
 ghost use Rattle.text.specs.Put.{Put};
 ghost use Rattle.sheet.specs.Sheet.{room, fresh_sheet, with_table, with_given, with_run, wrong_line, headed, heading_text, after_start, start_text, after_piece, piece_of, after_log, log_text, after_end, end_text, numbers_text, results_text, build_text, read_text, diagnose_text, extremes_text, question_text, asked_text, after_cut, cut_text, after_event, event_text, after_plain, plain_text, after_word, word_text, after_line, line_text};
 
@@ -23,6 +24,7 @@ use log_words::{is_log, put_log, put_table};
 use logrun::{Opened, Progress};
 use orders::{Question, Word};
 use script::{Command, frames};
+use ssi::Refusal;
 use state::{Extremes, State};
 use text::words;
 
@@ -203,16 +205,24 @@ fn put_results(out: &mut [u8], at: usize, any: u32, least: i32, greatest: i32) -
     text::put_word(out, p2, greatest, b'\n')
 }
 
+// The number of a refusal, 0 for none.
+fn number_told(refusal: Option<Refusal>) -> u32
+    ensures { result ≡ number_told refusal }
+{
+    match refusal {
+        None => 0,
+        Some(r) => r.number(),
+    }
+}
+
 // The telegram of a position under a table.
 fn build(t: &[i32; 104], position: u32, error: bool, out: &mut [u8]) -> usize
     requires { Valid t.now × (longest ≤ length out.old) }
     ensures { Put out.old 0 (build_text t.now position error) result out.new }
 {
+    let b = panel::build(t, position, error);
     let p1 = text::put_bytes(out, 0, b"build ");
-    match panel::build(t, position, error) {
-        Ok(telegram) => put_numbers(out, p1, position, 0, telegram),
-        Err(refusal) => put_numbers(out, p1, position, refusal.number(), 0),
-    }
+    put_numbers(out, p1, position, number_told(b.refusal), b.telegram)
 }
 
 // What a telegram says under a table.
@@ -220,11 +230,9 @@ fn content(t: &[i32; 104], telegram: u32, out: &mut [u8]) -> usize
     requires { Valid t.now × (longest ≤ length out.old) }
     ensures { Put out.old 0 (read_text t.now telegram) result out.new }
 {
+    let r = ssi::content_of(settings::layout(t), telegram);
     let p1 = text::put_bytes(out, 0, b"read ");
-    match ssi::content_of(settings::layout(t), telegram) {
-        Ok(c) => put_numbers(out, p1, 0, c.position, c.error as u32),
-        Err(refusal) => put_numbers(out, p1, refusal.number(), 0, 0),
-    }
+    put_numbers(out, p1, number_told(r.refusal), r.position, r.error as u32)
 }
 
 // The diagnosis of a telegram under a table.
@@ -232,11 +240,9 @@ fn diagnosis(t: &[i32; 104], telegram: u32, out: &mut [u8]) -> usize
     requires { Valid t.now × (longest ≤ length out.old) }
     ensures { Put out.old 0 (diagnose_text t.now telegram) result out.new }
 {
+    let d = panel::diagnose(t, telegram);
     let p1 = text::put_bytes(out, 0, b"diagnose ");
-    match panel::diagnose(t, telegram) {
-        Ok(d) => put_numbers(out, p1, 0, d.turns, d.place),
-        Err(refusal) => put_numbers(out, p1, refusal.number(), 0, 0),
-    }
+    put_numbers(out, p1, number_told(d.refusal), d.turns, d.place)
 }
 
 // Least and greatest.

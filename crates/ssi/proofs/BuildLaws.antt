@@ -1,5 +1,5 @@
 -- The parts of the two read-back laws: what the builder puts into a telegram is what reading takes out of it, and the other way.
-use Rattle.std.specs.Prelude.{Ok, ◌≡◌, refl, Bool, true, false, ◌&&◌, ◌⊎◌, ℕ, zero, suc, ◌+◌, ◌-◌, ◌*◌, ◌/◌, ◌%◌, ◌^◌, ◌≤◌, ◌<◌, ltb, eqb}
+use Rattle.std.specs.Prelude.{None, ◌≡◌, refl, Bool, true, false, ◌&&◌, ◌⊎◌, ℕ, zero, suc, ◌+◌, ◌-◌, ◌*◌, ◌/◌, ◌%◌, ◌^◌, ◌≤◌, ◌<◌, ltb, eqb}
 use Rattle.std.proofs.Common.{sym, ap, ap₂, ◌∙◌, subst, inl, inr, lt_of_lt_of_le, lt_of_le_of_lt, arith, ltb-true, ltb-false, lt-ltb, eqb-true, eq-eqb, ne_eqb, pow_mono, shl_lt}
 use Rattle.std.proofs.lemmas.Bool.{lt-leb, eqb-false}
 use Rattle.ssi.specs.declared.Layout.{Layout}
@@ -126,16 +126,16 @@ not-both l true m = ne_eqb (error_bit l) 0 (λ e. omega (arith, e, m refl))
 not-both l false m = refl
 
 pub built-is : (l : Layout) (p : ℕ) (asked : Bool) → p < modulus l → (asked ≡ true → 0 < error_bit l)
-    → built_of l p asked ≡ Ok (telegram_of l p asked)
+    → built_of l p asked ≡ record { refusal = None; telegram = telegram_of l p asked }
 unfolding built_of
 built-is l p asked h m = rw (lt-leb (modulus l) p h, not-both l asked m)
 
 -- an accepted telegram is read
-pub reading-is : (l : Layout) (t : ℕ) → accepted l t ≡ true → content_of l t ≡ Ok (record { position = position_of l t; error = error_reported l t })
+pub reading-is : (l : Layout) (t : ℕ) → accepted l t ≡ true → content_of l t ≡ record { refusal = None; position = position_of l t; error = error_reported l t }
 unfolding content_of
 reading-is l t a = rw a
 
 pub reads-built : (l : Layout) → Sound l → (p : ℕ) (asked : Bool) → p < modulus l → (asked ≡ true → 0 < error_bit l)
-    → content_of l (telegram_of l p asked) ≡ Ok (record { position = p; error = asked })
+    → content_of l (telegram_of l p asked) ≡ record { refusal = None; position = p; error = asked }
 reads-built l s p asked h m =
     reading-is l (telegram_of l p asked) (built-accepted l s p asked h) ∙ rw (built-position l s p asked h, built-error l s p asked h m)

@@ -1,6 +1,6 @@
 -- What a telegram says: its bits B to H, decoded where the format is Gray, are its position p.
 -- Paper 01, "From telegram to result", first paragraph. Bit 1 is the lowest.
-use Rattle.std.specs.Prelude.{Result, Ok, Err, Bool, cond, ◌&&◌, ℕ, zero, suc, ◌+◌, ◌-◌, ◌*◌, ◌/◌, ◌%◌, ◌^◌, ltb, eqb}
+use Rattle.std.specs.Prelude.{Option, Some, None, Bool, false, cond, ◌&&◌, ℕ, zero, suc, ◌+◌, ◌-◌, ◌*◌, ◌/◌, ◌%◌, ◌^◌, ltb, eqb}
 use Rattle.std.specs.Int.Count.{ones_in}
 use Rattle.ssi.specs.declared.Layout.{Layout}
 use Rattle.ssi.specs.declared.Content.{Content}
@@ -14,6 +14,11 @@ abbrev pub refusal_number : Refusal → ℕ
 refusal_number BitAbove = 11
 refusal_number PositionAbove = 17
 refusal_number NoErrorBit = 18
+
+-- 0 where there is none
+abbrev pub number_told : Option Refusal → ℕ
+number_told None = 0
+number_told (Some r) = refusal_number r
 
 -- Where each check sits, 11: a telegram is accepted when no bit above N is set
 unfoldable pub accepted : Layout → ℕ → Bool
@@ -65,12 +70,15 @@ unfoldable pub position_of : Layout → ℕ → ℕ
 position_of l t = decoded l.format l.resolution (without_bit (error_bit l) t) / 2 ^ (l.low - 1) % modulus l
 
 -- a telegram read; with 11 there is no position and no error
-unfoldable pub content_of : Layout → ℕ → Result Content Refusal
-content_of l t = cond (accepted l t) (Ok (record { position = position_of l t; error = error_reported l t })) (Err BitAbove)
+unfoldable pub content_of : Layout → ℕ → Content
+content_of l t =
+    cond (accepted l t)
+    (record { refusal = None; position = position_of l t; error = error_reported l t })
+    (record { refusal = Some BitAbove; position = 0; error = false })
 
--- the diagnosis: p split by 2 to the power "bits per turn" into turns and place within the turn, neither with 11
-unfoldable pub diagnosis_of : Layout → ℕ → ℕ → Result Diagnosis Refusal
+-- the diagnosis: p split by 2 to the power "bits per turn" into turns and place within the turn, 0 and 0 with 11
+unfoldable pub diagnosis_of : Layout → ℕ → ℕ → Diagnosis
 diagnosis_of l bits t =
     cond (accepted l t)
-    (Ok (record { turns = position_of l t / 2 ^ bits; place = position_of l t % 2 ^ bits }))
-    (Err BitAbove)
+    (record { refusal = None; turns = position_of l t / 2 ^ bits; place = position_of l t % 2 ^ bits })
+    (record { refusal = Some BitAbove; turns = 0; place = 0 })

@@ -7,7 +7,7 @@ pub mod doubling; // doubling.rt: the position in fewer steps, for bursts
 ghost use Rattle.std.specs.Prelude.{◌≡◌, ◌&&◌, ◌-◌, ◌^◌, ◌≤◌, ◌<◌, eqb};
 ghost use Rattle.ssi.specs.Sound.{Sound, error_bit};
 ghost use Rattle.ssi.specs.Telegram.{refusal_number, accepted, level_of, error_reported, without_bit, gray_decoded, decoded, width_of, modulus, position_of, content_of, diagnosis_of};
-ghost use Rattle.ssi.specs.Builder.{coded, level_asked, telegram_of, built_of};
+ghost use Rattle.ssi.specs.Builder.{coded, level_asked, telegram_of, refused, built_of};
 
 // How a telegram is laid out, as the table has it.
 #[derive(Clone, Copy)]
@@ -53,7 +53,9 @@ impl Refusal {
 // What a telegram says.
 #[derive(Clone, Copy)]
 pub struct Content {
-    // The position p.
+    // None, or 11 for a telegram with a bit above N.
+    pub refusal: Option<Refusal>,
+    // The position p, 0 with a refusal.
     pub position: u32,
     // Whether the error bit stands at its error level.
     pub error: bool,
@@ -62,10 +64,21 @@ pub struct Content {
 // A position split by the bits per turn.
 #[derive(Clone, Copy)]
 pub struct Diagnosis {
-    // The whole turns.
+    // None, or 11 for a telegram with a bit above N.
+    pub refusal: Option<Refusal>,
+    // The whole turns, 0 with a refusal.
     pub turns: u32,
-    // The place within the turn.
+    // The place within the turn, 0 with a refusal.
     pub place: u32,
+}
+
+// What the builder answers.
+#[derive(Clone, Copy)]
+pub struct Built {
+    // None; 17 for a position of M or more; 18 for an error asked for where no error bit is set up.
+    pub refusal: Option<Refusal>,
+    // The telegram, 0 with a refusal.
+    pub telegram: u32,
 }
 
 // The `width` low bits set. No shift by 32 is made.
@@ -174,29 +187,42 @@ pub fn position(l: Layout, t: u32) -> u32
 }
 
 // A telegram read: its position and its error, or 11.
-pub fn content_of(l: Layout, t: u32) -> Result<Content, Refusal>
+pub fn content_of(l: Layout, t: u32) -> Content
     requires { Sound l }
     ensures { result ≡ content_of l t }
 {
     if accepts(l, t) {
-        return Ok(Content {
+        return Content {
+            refusal: None,
             position: position(l, t),
             error: error_reported(l, t),
-        });
+        };
     }
-    Err(Refusal::BitAbove)
+    Content {
+        refusal: Some(Refusal::BitAbove),
+        position: 0,
+        error: false,
+    }
 }
 
 // The diagnosis of a telegram by itself: turns and place within the turn, or 11.
-pub fn diagnose(l: Layout, bits_per_turn: u32, t: u32) -> Result<Diagnosis, Refusal>
+pub fn diagnose(l: Layout, bits_per_turn: u32, t: u32) -> Diagnosis
     requires { Sound l × (1 ≤ bits_per_turn) × (bits_per_turn < 32) }
     ensures { result ≡ diagnosis_of l bits_per_turn t }
 {
-    let p = content_of(l, t)?.position;
-    Ok(Diagnosis {
-        turns: p >> bits_per_turn,
-        place: p & mask(bits_per_turn),
-    })
+    if accepts(l, t) {
+        let p = position(l, t);
+        return Diagnosis {
+            refusal: None,
+            turns: p >> bits_per_turn,
+            place: p & mask(bits_per_turn),
+        };
+    }
+    Diagnosis {
+        refusal: Some(Refusal::BitAbove),
+        turns: 0,
+        place: 0,
+    }
 }
 
 // The position as the telegram carries it, by format.
@@ -239,16 +265,29 @@ fn lacks_error_bit(l: Layout, error: bool) -> bool
     error && l.error_bit == 0
 }
 
-// The telegram of a position, with the error bit at its error level exactly when the error is asked for; or 17 or 18.
-pub fn build(l: Layout, position: u32, error: bool) -> Result<u32, Refusal>
+// A position that is not built.
+fn refuse(refusal: Refusal) -> Built
+    ensures { result ≡ refused refusal }
+{
+    Built {
+        refusal: Some(refusal),
+        telegram: 0,
+    }
+}
+
+// The telegram of a position, with the error bit at its error level exactly when the error is asked for.
+pub fn build(l: Layout, position: u32, error: bool) -> Built
     requires { Sound l }
     ensures { result ≡ built_of l position error }
 {
     if mask(width(l)) < position {
-        return Err(Refusal::PositionAbove);
+        return refuse(Refusal::PositionAbove);
     }
     if lacks_error_bit(l, error) {
-        return Err(Refusal::NoErrorBit);
+        return refuse(Refusal::NoErrorBit);
     }
-    Ok(telegram(l, position, error))
+    Built {
+        refusal: None,
+        telegram: telegram(l, position, error),
+    }
 }

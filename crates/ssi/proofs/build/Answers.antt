@@ -7,7 +7,6 @@ use lib.Pow.{suc_ones}
 use Rattle.ssi.specs.declared.Layout.{Layout}
 use Rattle.ssi.specs.Telegram.{width_of, modulus}
 use Rattle.ssi.specs.Builder.{built_of}
-use borrow.Author.Rules.{rules}
 use Rattle.ssi.proofs.build.Goals as goal
 
 -- M is one above the mask
@@ -18,13 +17,13 @@ pub returns-then-mask-position : goal.returns-then-mask-position
 unfolding built_of
 returns-then-mask-position c =
     let too-big : modulus c.args.l ≤ c.args.position = omega (arith, above-mask c.args.l _ _ c.width.ensures c.mask.ensures, c.if-mask-position.true) in
-    rw (le-leb _ _ too-big)
+    rw (c.refuse.ensures, le-leb _ _ too-big)
 
 pub returns-then-lacks_error_bit : goal.returns-then-lacks_error_bit
 unfolding built_of
 returns-then-lacks_error_bit c =
     let small : c.args.position < modulus c.args.l = omega (arith, above-mask c.args.l _ _ c.width.ensures c.mask.ensures, c.if-mask-position.false) in
-    rw (lt-leb _ _ small, sym c.lacks_error_bit.ensures ∙ c.if-lacks_error_bit.true)
+    rw (c.refuse-then-lacks_error_bit.ensures, lt-leb _ _ small, sym c.lacks_error_bit.ensures ∙ c.if-lacks_error_bit.true)
 
 pub telegram-requires : goal.telegram-requires
 telegram-requires c =
