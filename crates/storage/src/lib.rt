@@ -7,11 +7,13 @@ use std::io::{Read, Write};
 // The bytes of a piece: 64 groups of 32 words.
 const PIECE: usize = 8192;
 
-// Stores the input to its end, a piece a turn; the last one is shorter. There are more turns than any input uses up.
+// Stores the input to its end, a piece a turn; the last one is shorter. The turns are counted down from a number that no input uses up.
+// Kept: turns counted down, no `for`, which ends whatever its body does, so that no edit of it could store an endless input for ever (must-fail/runs_on).
 pub fn run<R: Read, W: Write>(reader: &mut R, writer: &mut W) {
     let mut input = [0; PIECE];
     let mut output = [0; PIECE];
-    for _ in 0..u64::MAX {
+    let mut turns = u64::MAX;
+    while turns > 0 {
         let n = ports::read_full(reader, &mut input);
         if recorder::turn(&input[..n], &mut output).is_err() {
             return;
@@ -19,5 +21,6 @@ pub fn run<R: Read, W: Write>(reader: &mut R, writer: &mut W) {
         if !(ports::write_all(writer, &output[..n]) & (n == PIECE)) {
             return;
         }
+        turns -= 1;
     }
 }
