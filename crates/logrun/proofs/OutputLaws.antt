@@ -28,7 +28,7 @@ refused-some p w n e = by (word-reason p w n e)
   where
     by : Reason p w n → eqb (refusal_number n) 0 ≡ false
     by (inl (h, r)) = rw h
-    by (inr (h, r)) = rw h
+    by (inr (h, r, o)) = rw h
 
 -- what is printed from a place of the log on
 abbrev pub rest_text : Progress → List ℕ → ℕ → List ℕ
