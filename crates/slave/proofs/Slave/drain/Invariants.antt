@@ -1,4 +1,4 @@
--- `slave::Slave::drain` meets its contract. The invariant: the panel stays valid, as `take_event` promises, and neither an event nor its line changes the address and the serial line.
+-- `slave::Slave::drain` meets its contract. The invariant: the panel stays valid, as `take_event` promises, and the node address and the serial line stay as they were.
 use Rattle.std.proofs.Common.{◌≡◌}
 use Rattle.state.specs.Valid.{Good}
 use Rattle.slave.proofs.Slave.drain.Given as goal
