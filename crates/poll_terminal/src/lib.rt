@@ -30,9 +30,10 @@ impl Dialog<128> for Polling {
         dispatcher::fresh()
     }
 
-    fn line(d: Dispatcher, line: &[u8], out: &mut [u8; 128]) -> (Dispatcher, usize) {
-        let s = poll_dialog::line(d, line, out);
-        (s.dispatcher, s.end)
+    fn line(d: &mut Dispatcher, line: &[u8], out: &mut [u8; 128]) -> usize {
+        let s = poll_dialog::line(*d, line, out);
+        *d = s.dispatcher;
+        s.end
     }
 }
 

@@ -26,9 +26,10 @@ impl Dialog<12928> for Reading {
         crate::fresh()
     }
 
-    fn line(s: Sheet, line: &[u8], out: &mut [u8; 12928]) -> (Sheet, usize) {
-        let a = crate::line(s, line, out);
-        (a.sheet, a.end)
+    fn line(s: &mut Sheet, line: &[u8], out: &mut [u8; 12928]) -> usize {
+        let a = crate::line(*s, line, out);
+        *s = a.sheet;
+        a.end
     }
 }
 

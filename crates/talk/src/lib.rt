@@ -31,12 +31,12 @@ pub trait Dialog<const ROOM: usize> {
         ensures is { result ≡ first }
         ensures ready { Ready result };
 
-    // One line, without its newline: what is kept after it, and where its answer ends, which stands at the start of the buffer.
-    fn line(s: Self::State, line: &[u8], out: &mut [u8; ROOM]) -> (Self::State, usize)
-        requires { Ready s }
-        ensures is { result.0 ≡ after s line.now }
-        ensures ready { Ready result.0 }
-        ensures within { result.1 ≤ ROOM };
+    // One line, without its newline, changes what is kept, in place, since it is large. Says where its answer ends, which stands at the start of the buffer.
+    fn line(s: &mut Self::State, line: &[u8], out: &mut [u8; ROOM]) -> usize
+        requires { Ready s.old }
+        ensures is { s.new ≡ after s.old line.now }
+        ensures ready { Ready s.new }
+        ensures within { result ≤ ROOM };
 
     // The room fits in memory.
     ghost fits: { ROOM < 2 ^ 63 };
@@ -53,20 +53,19 @@ struct Talk<S> {
 
 // A line that has ended: it is answered.
 fn answer<const ROOM: usize, D: Dialog<ROOM>, W: Write>(
-    s: D::State,
+    s: &mut D::State,
     bytes: &[u8],
     x: Extent,
     output: &mut W,
-) -> D::State
-    requires { D.Ready s × (most ≤ length bytes.now) }
-    ensures is { result ≡ answered_of D.after s (collected bytes.now x) }
-    ensures ready { D.Ready result }
+)
+    requires { D.Ready s.old × (most ≤ length bytes.now) }
+    ensures is { s.new ≡ answered_of D.after s.old (collected bytes.now x) }
+    ensures ready { D.Ready s.new }
 {
     let n = collector::held(x);
     let mut out = [0u8; ROOM];
-    let (next, end) = D::line(s, &bytes[..n], &mut out);
+    let end = D::line(s, &bytes[..n], &mut out);
     ports::write_all(output, &out[..end]);
-    next
 }
 
 // The bytes of a piece of the input. The state is left alone but where a line ends, since it is large.
@@ -86,7 +85,7 @@ fn take_all<const ROOM: usize, D: Dialog<ROOM>, W: Write>(
     for b in bytes {
         x = collector::push(&mut held, x, *b);
         if x.ended {
-            s = answer::<ROOM, D, W>(s, &held, x, output);
+            answer::<ROOM, D, W>(&mut s, &held, x, output);
         }
     }
     Talk {
@@ -104,11 +103,12 @@ fn finish<const ROOM: usize, D: Dialog<ROOM>, W: Write>(
     ensures { result ≡ finished D.after (t.state, t.collector) }
 {
     let l = t.collector;
+    let mut last = t.state;
     if collector::pending(l) {
         let bytes = l.bytes;
-        return answer::<ROOM, D, W>(t.state, &bytes, collector::extent_of(l), output);
+        answer::<ROOM, D, W>(&mut last, &bytes, collector::extent_of(l), output);
     }
-    t.state
+    last
 }
 
 // Reads what is there and answers the lines that end in it; none where the input has ended.

@@ -27,9 +27,10 @@ impl Dialog<128> for Panel {
         dialog::fresh()
     }
 
-    fn line(c: Console, line: &[u8], out: &mut [u8; 128]) -> (Console, usize) {
-        let s = dialog::line(c, line, out);
-        (s.console, s.end)
+    fn line(c: &mut Console, line: &[u8], out: &mut [u8; 128]) -> usize {
+        let s = dialog::line(*c, line, out);
+        *c = s.console;
+        s.end
     }
 }
 

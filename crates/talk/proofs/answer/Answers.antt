@@ -2,8 +2,8 @@
 use Rattle.std.proofs.Common.{arith}
 use Rattle.talk.proofs.answer.Goals as goal
 
-pub line-next-requires : goal.line-next-requires
-line-next-requires g c = (omega (arith, g.met.D.Dialog.fits), c.requires.0)
+pub line-end-requires : goal.line-end-requires
+line-end-requires g c = (omega (arith, g.met.D.Dialog.fits), c.requires.0)
 
 pub shared_whole_as_front-write_all : goal.shared_whole_as_front-write_all
-shared_whole_as_front-write_all g c = (c.line-next.ensures.within, omega (arith, g.met.D.Dialog.fits))
+shared_whole_as_front-write_all g c = (c.line-end.ensures.within, omega (arith, g.met.D.Dialog.fits))

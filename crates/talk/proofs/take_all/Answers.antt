@@ -22,7 +22,7 @@ loop-b-preserved g c =
     let whole : length c.push-x.new.bytes ≡ most = omega (arith, c.push-x.auto.bytes, l.invariant.2) in
     let next : g.D.Dialog.Ready c.if-x.s × (c.if-x.s ≡ answered_at after l.s line) =
     elim c.if-x.branch [
-      | then-x w ↦ (rw w.s-is w.answer-s.ensures.ready, w.s-is ∙ (w.answer-s.ensures.is ∙ asked c.push-x.result.ended (answered_of after l.s line) l.s w.if-x.true))
+      | then-x w ↦ (rw w.s-is w.answer.ensures.ready, w.s-is ∙ (w.answer.ensures.is ∙ asked c.push-x.result.ended (answered_of after l.s line) l.s w.if-x.true))
       | else-x w ↦ (rw w.s-is l.invariant.0, w.s-is ∙ unasked c.push-x.result.ended (answered_of after l.s line) l.s w.if-x.false)
     ] in
     let one = talked-by after l.s c.if-x.s (collected l.held l.x) line _ c.push-x.ensures next.1 in (
