@@ -5,7 +5,7 @@
 ghost use Rattle.std.specs.Prelude.{◌≡◌, ◌^◌, ◌<◌, ◌≤◌, List, ℕ, [], length, IfSome, IfNone};
 ghost use Rattle.std.specs.Io.KnownBytes.{Consumes};
 ghost use Rattle.script.specs.Collector.{most, collected};
-ghost use Rattle.script.specs.Talk.{answered_of, talked_all};
+ghost use Rattle.script.specs.Talk.{answered_of, answered_at, talked_all};
 ghost use Rattle.talk.specs.Ends.{Heard, finished, Ran};
 
 use script::collector;
@@ -68,7 +68,23 @@ fn answer<const ROOM: usize, D: Dialog<ROOM>, W: Write>(
     ports::write_all(output, &out[..end]);
 }
 
-// The bytes of a piece of the input. The state is left alone but where a line ends, since it is large.
+// What is kept behind a byte: a line that it ends is answered.
+fn take<const ROOM: usize, D: Dialog<ROOM>, W: Write>(
+    s: &mut D::State,
+    bytes: &[u8],
+    x: Extent,
+    output: &mut W,
+)
+    requires { D.Ready s.old × (most ≤ length bytes.now) }
+    ensures is { s.new ≡ answered_at D.after s.old (collected bytes.now x) }
+    ensures ready { D.Ready s.new }
+{
+    if x.ended {
+        answer::<ROOM, D, W>(s, bytes, x, output);
+    }
+}
+
+// The bytes of a piece of the input.
 fn take_all<const ROOM: usize, D: Dialog<ROOM>, W: Write>(
     t: Talk<D::State>,
     bytes: &[u8],
@@ -84,9 +100,7 @@ fn take_all<const ROOM: usize, D: Dialog<ROOM>, W: Write>(
     let mut s = t.state;
     for b in bytes {
         x = collector::push(&mut held, x, *b);
-        if x.ended {
-            answer::<ROOM, D, W>(&mut s, &held, x, output);
-        }
+        take::<ROOM, D, W>(&mut s, &held, x, output);
     }
     Talk {
         state: s,
